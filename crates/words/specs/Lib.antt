@@ -1,0 +1,3 @@
+pub mod Bytes
+pub mod Rule
+pub mod Table

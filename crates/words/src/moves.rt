@@ -1,0 +1,53 @@
+// Copies, zero fills and moves of runs of bytes.
+ghost use mathlib.Core.Path.{_≡_};
+ghost use Prim.Native.Nat.{_+_, _-_, _≤_};
+ghost use lib.ListN.{length};
+ghost use Rattle.words.specs.Bytes.{part, over, zeros};
+
+// The bytes of src, from index at.
+pub fn copy(v: &mut [u8], at: usize, src: &[u8])
+    requires { ⌜ at + length (now src) ≤ length (now v) ⌝ }
+    ensures { λ _. ⌜ now (v .exit) ≡ over (now (v .entry)) at (now (src .entry)) ⌝ }
+{
+    let mut i = 0;
+    while i < src.len() {
+        v[at + i] = src[i];
+        i += 1;
+    }
+}
+
+// n zeros, from index at.
+pub fn clear(v: &mut [u8], at: usize, n: usize)
+    requires { ⌜ at + n ≤ length (now v) ⌝ }
+    ensures { λ _. ⌜ now (v .exit) ≡ over (now (v .entry)) at (zeros n) ⌝ }
+{
+    let mut i = 0;
+    while i < n {
+        v[at + i] = 0;
+        i += 1;
+    }
+}
+
+// The bytes from index from up to, not including, index to, moved up by so many. The last goes first, so that none is lost.
+pub fn shift_up(v: &mut [u8], from: usize, to: usize, by: usize)
+    requires { ⌜ (from ≤ to) × (to + by ≤ length (now v)) ⌝ }
+    ensures { λ _. ⌜ now (v .exit) ≡ over (now (v .entry)) (from + by) (part (now (v .entry)) from (to - from)) ⌝ }
+{
+    let mut k = to;
+    while from < k {
+        k -= 1;
+        v[k + by] = v[k];
+    }
+}
+
+// The same, moved down: the first goes first.
+pub fn shift_down(v: &mut [u8], from: usize, to: usize, by: usize)
+    requires { ⌜ (by ≤ from) × ((from ≤ to) × (to ≤ length (now v))) ⌝ }
+    ensures { λ _. ⌜ now (v .exit) ≡ over (now (v .entry)) (from - by) (part (now (v .entry)) from (to - from)) ⌝ }
+{
+    let mut k = from;
+    while k < to {
+        v[k - by] = v[k];
+        k += 1;
+    }
+}
