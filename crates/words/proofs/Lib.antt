@@ -3,6 +3,8 @@ pub mod Numbers
 pub mod Rules
 pub mod Blocks
 pub mod Order
+pub mod Counting
+pub mod Multiples
 pub mod Tables
 pub mod Search
 pub mod Turns

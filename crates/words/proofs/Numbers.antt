@@ -109,3 +109,16 @@ spell-value (x ∷ l) h =
 pub spell-num : (n : ℕ) (l : List ℕ) (at : ℕ) → Bytes l → at + n ≤ length l → spell n (num n l at) ≡ part l at n
 unfolding num
 spell-num n l at h k = rw (length-part l at n k) at (spell-value (part l at n) (bytes-part l at n h k))
+
+-- ---- how large a number is
+
+pub value-below : (l : List ℕ) → Bytes l → value l < 256 ^ length l
+unfolding value
+value-below [] h = omega arith
+value-below (x ∷ l) h =
+    let b : x < 256 = unfold Bytes in h 0 in
+    rw pow-succ' (omega (arith, value-below l (bytes-tail x l h)))
+
+pub num-below : (n : ℕ) (l : List ℕ) (at : ℕ) → Bytes l → at + n ≤ length l → num n l at < 256 ^ n
+unfolding num
+num-below n l at b h = rw (length-part l at n h) at (value-below (part l at n) (bytes-part l at n b h))

@@ -1,11 +1,11 @@
 -- Laws of `Each` and `Asc`.
 -- Assumes nothing.
-use mathlib.Core.Path.{_≡_, refl}
+use mathlib.Core.Path.{_≡_, refl, ap}
 use mathlib.Core.Bool.{Bool, true, false}
 use mathlib.Core.List.{List, [], _∷_, _++_}
 use Prim.Native.Nat.{ℕ, zero, suc, _+_, _-_, _<_}
-use native.Mathlib.Nat.{not-suc-le-zero, le-of-suc-le-suc}
-use lib.ListN.{length, take, drop, getD}
+use native.Mathlib.Nat.{not-suc-le-zero, le-of-suc-le-suc, zero-add, suc-add}
+use lib.ListN.{set, length, take, drop, getD}
 use Rattle.words.specs.Table.{insertAt, lead, leadOf, Each, removeAt, Asc}
 
 pub each-at : {R : Type 0} (P : R → Type 0) (rs : List R) (i : ℕ) (d : R) → Each P rs → i < length rs → P (getD rs i d)
@@ -18,6 +18,16 @@ pub each-append : {R : Type 0} (P : R → Type 0) (a b : List R) → Each P a �
 unfolding Each
 each-append P [] b h k = k
 each-append P (r ∷ a) b h k = (h .0, each-append P a b (h .1) k)
+
+pub each-left : {R : Type 0} (P : R → Type 0) (a b : List R) → Each P (a ++ b) → Each P a
+unfolding Each
+each-left P [] b h = tt
+each-left P (r ∷ a) b h = (h .0, each-left P a b (h .1))
+
+pub each-right : {R : Type 0} (P : R → Type 0) (a b : List R) → Each P (a ++ b) → Each P b
+unfolding Each
+each-right P [] b h = h
+each-right P (r ∷ a) b h = each-right P a b (h .1)
 
 pub each-take : {R : Type 0} (P : R → Type 0) (n : ℕ) (a : List R) → Each P a → Each P (take n a)
 unfolding Each
@@ -57,3 +67,8 @@ module _ {R : Type 0} (lt : R → R → Type 0) (trans : (a b c : R) → lt a b 
     unfolding Asc Each insertAt lead
     insert-asc [] a n = (tt, tt)
     insert-asc (r ∷ rs) a n = insert-asc-of (f r) r rs refl a (n .0) (insert-asc rs (a .1) (n .1))
+
+-- a store behind the seam of two lists
+pub set-append-add : {R : Type 0} (xs ys : List R) (n : ℕ) (a : R) → set (xs ++ ys) (length xs + n) a ≡ xs ++ set ys n a
+set-append-add [] ys n a = rw zero-add
+set-append-add {R = R} (x ∷ xs) ys n a = rw suc-add (ap (λ (r : List R). x ∷ r) (set-append-add xs ys n a))

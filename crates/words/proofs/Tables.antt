@@ -3,7 +3,7 @@
 use mathlib.Core.Path.{_≡_, refl, sym, ap, _∙_}
 use mathlib.Core.List.{List, [], _∷_, _++_, append-assoc, append-nil}
 use Prim.Native.Nat.{ℕ, zero, suc, _+_, _-_, _*_, _^_, _≤_, _<_}
-use native.Mathlib.Nat.{add-zero, zero-add, add-comm, mul-add, mul-zero, mul-one, mul-suc, sub-self, sub-zero, not-suc-le-zero, le-of-suc-le-suc}
+use native.Mathlib.Nat.{suc-add, add-zero, zero-add, add-comm, mul-add, mul-zero, mul-one, mul-suc, sub-self, sub-zero, not-suc-le-zero, le-of-suc-le-suc}
 use native.Mathlib.Numerals.{add-one}
 use native.Mathlib.Omega.{arith}
 use lib.ListN.{length, take, drop, getD, set, length-append, length-drop, length-set, take-append-drop}
@@ -264,3 +264,20 @@ lay-table read lay s l h at (suc n) k =
     let e : s * suc n ≡ s + s * n = mul-suc s n ∙ add-comm (s * n) s in
     let m = rw e at k in
     rw (e, part-add l at s (s * n), h at (omega arith), lay-table read lay s l h (at + s) n (omega arith))
+
+-- a table, cut in two
+pub table-add : {R : Type 0} (read : List ℕ → R) (s : ℕ) (l : List ℕ) (at m n : ℕ) → table read s l at (m + n) ≡ table read s l at m ++ table read s l (at + s * m) n
+unfolding table
+table-add read s l at zero n = rw (zero-add, mul-zero, add-zero)
+table-add {R = R} read s l at (suc m) n =
+    let e : at + s + s * m ≡ at + s * suc m = omega (arith, mul-suc s m) in
+    rw (suc-add) (ap (λ (t : List R). read (part l at s) ∷ t) (table-add read s l (at + s) m n ∙ ap (λ (k : ℕ). table read s l (at + s) m ++ table read s l k n) e))
+
+-- every row of a table, by what holds of the bytes of each
+pub each-table : {R : Type 0} (P : R → Type 0) (read : List ℕ → R) (s : ℕ) (l : List ℕ) → ((at : ℕ) → at + s ≤ length l → P (read (part l at s)))
+    → (at n : ℕ) → at + s * n ≤ length l → Each P (table read s l at n)
+unfolding Each table
+each-table P read s l h at zero k = tt
+each-table P read s l h at (suc n) k =
+    let e = mul-suc s n in
+    (h at (omega arith), each-table P read s l h (at + s) n (omega arith))

@@ -1,0 +1,5 @@
+pub mod Sized
+pub mod Laid
+pub mod Steps
+pub mod Opened
+pub mod Accounts

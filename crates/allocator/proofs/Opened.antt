@@ -1,0 +1,92 @@
+-- What open finds and leaves, from what it read and wrote.
+-- Assumes nothing.
+use mathlib.Core.Path.{_≡_, refl, sym, _∙_}
+use mathlib.Core.Bool.{Bool, true, false}
+use mathlib.Core.List.{List}
+use Prim.Native.Nat.{ℕ, _-_, _≤_, _<_}
+use native.Mathlib.Omega.{arith}
+use lib.Dec.{eqb}
+use lib.ListN.{length}
+use borrow.Author.Tests.{eq-eqb, ne-eqb, eqb-true, eqb-false, lt-ltb, le-ltb}
+use Rattle.words.specs.Bytes.{over, spell, num, word}
+use Rattle.words.specs.Rule.{pick}
+use Rattle.words.proofs.Rules.{pick-true, pick-false, done, or-else}
+use Rattle.types.specs.Outcomes.{outcome, refused}
+use Rattle.types.specs.declared.Answer.the-variants.{Done}
+use Rattle.types.specs.declared.Error.the-variants.{UnsoundMemory, InvalidArgument}
+use Rattle.allocator.specs.Sizes.{acceptedSize, defaultSize}
+use Rattle.allocator.specs.Allocator.{marker}
+use Rattle.allocator.specs.Opening.{newMark, oldMark, marked, sizeMeant, sized, openable, remarked, resized, opened}
+use Rattle.allocator.proofs.Sized.{accepted-bounds}
+
+module _ (l : List ℕ) where
+  -- ---- the marker: x is what the first four bytes spell
+
+  pub mark-new : {x : ℕ} → x ≡ num 4 l 0 → x ≡ newMark → true ≡ marked l
+  unfolding marked
+  mark-new e h = done _ _ (rw (← e) (eq-eqb _ _ h))
+
+  pub mark-other : {x : ℕ} → x ≡ num 4 l 0 → (x ≡ newMark → ⊥) → eqb x oldMark ≡ marked l
+  unfolding marked
+  mark-other e h = or-else _ _ (rw (← e) (ne-eqb _ _ h)) (rw e)
+
+  pub mark-renewed : {x : ℕ} {m : List ℕ} → x ≡ num 4 l 0 → x ≡ oldMark → m ≡ over l 0 (spell 8 marker) → m ≡ remarked l
+  unfolding remarked
+  mark-renewed e h q = pick-true _ _ _ _ (rw (← e) (eq-eqb _ _ h)) q
+
+  pub mark-kept : {x : ℕ} → x ≡ num 4 l 0 → (x ≡ oldMark → ⊥) → l ≡ remarked l
+  unfolding remarked
+  mark-kept e h = pick-false _ _ _ _ (rw (← e) (ne-eqb _ _ h)) refl
+
+  -- ---- the size: x is the size word
+
+  pub size-default : {x : ℕ} → x ≡ word l 8 → x ≡ 0 → defaultSize ≡ sizeMeant l
+  unfolding sizeMeant
+  size-default e h = pick-true _ _ _ _ (rw (← e) (eq-eqb _ _ h)) refl
+
+  pub size-stored : {x : ℕ} → x ≡ word l 8 → (x ≡ 0 → ⊥) → x ≡ sizeMeant l
+  unfolding sizeMeant
+  size-stored e h = pick-false _ _ _ _ (rw (← e) (ne-eqb _ _ h)) e
+
+  pub sized-none : {x y : ℕ} → x ≡ word l 8 → x ≡ 0 → y ≡ word l 24 → eqb y 0 ≡ sized l
+  unfolding sized
+  sized-none e h n = pick-true _ _ _ _ (rw (← e) (eq-eqb _ _ h)) (rw n)
+
+  pub sized-some : {x : ℕ} {r : Bool} → x ≡ word l 8 → (x ≡ 0 → ⊥) → r ≡ acceptedSize x → r ≡ sized l
+  unfolding sized
+  sized-some e h n = pick-false _ _ _ _ (rw (← e) (ne-eqb _ _ h)) (rw (← e) n)
+
+  pub size-renewed : {x : ℕ} {m : List ℕ} → x ≡ word l 8 → x ≡ 0 → m ≡ over l 8 (spell 8 defaultSize) → m ≡ resized l
+  unfolding resized
+  size-renewed e h q = pick-true _ _ _ _ (rw (← e) (eq-eqb _ _ h)) q
+
+  pub size-kept : {x : ℕ} → x ≡ word l 8 → (x ≡ 0 → ⊥) → l ≡ resized l
+  unfolding resized
+  size-kept e h = pick-false _ _ _ _ (rw (← e) (ne-eqb _ _ h)) refl
+
+  -- a size that is meant is positive
+  pub meant-positive : {s : ℕ} → s ≡ sizeMeant l → sized l ≡ true → 0 < s
+  unfolding sizeMeant sized pick
+  meant-positive {s} e h = go (eqb (word l 8) 0) refl
+    where
+      go : (t : Bool) → eqb (word l 8) 0 ≡ t → 0 < s
+      go true z = let q : s ≡ defaultSize = e ∙ sym (size-default refl (eqb-true _ _ z)) in omega arith
+      go false z =
+          let q : s ≡ word l 8 = e ∙ sym (size-stored refl (eqb-false _ _ z)) in
+          let a : acceptedSize (word l 8) ≡ true = sized-some refl (eqb-false _ _ z) refl ∙ h in
+          omega (arith, accepted-bounds (word l 8) a)
+
+  -- ---- the outcome
+
+  pub open-short : length l < 128 → refused InvalidArgument l ≡ opened l
+  unfolding opened
+  open-short h = pick-true _ _ _ _ (lt-ltb _ _ h) refl
+
+  module _ (h : 128 ≤ length l) where
+    pub open-unsound : openable l ≡ false → refused UnsoundMemory l ≡ opened l
+    unfolding opened
+    open-unsound e = pick-false _ _ _ _ (le-ltb _ _ h) (pick-false _ _ _ _ e refl)
+
+    pub open-done : {m n : List ℕ} → openable l ≡ true → m ≡ remarked l → n ≡ resized m → outcome (Done 0) n ≡ opened l
+    unfolding opened
+    open-done e p q = pick-false _ _ _ _ (le-ltb _ _ h) (pick-true _ _ _ _ e (rw (q, p)))

@@ -1,0 +1,5 @@
+pub mod Sizes
+pub mod Allocator
+pub mod Words
+pub mod Opening
+pub mod Pointers

@@ -1,0 +1,131 @@
+// The chunk pointer allocator, on its words alone: a part of the volume that starts in its middle.
+mod opening;
+
+pub use opening::open;
+use types::Answer;
+use types::Error;
+ghost use mathlib.Core.Path.{_≡_};
+ghost use Prim.Native.Nat.{_+_, _-_, _*_, _≤_, _<_};
+ghost use lib.ListN.{length};
+ghost use Rattle.words.specs.Bytes.{word, over, spell};
+ghost use Rattle.allocator.specs.Sizes.{acceptedSize};
+ghost use Rattle.allocator.specs.Allocator.{readAllocator, layAllocator, allocate, release, setChunkSize};
+ghost use Rattle.allocator.specs.Words.{Formed, Takable, lastFree, withoutLast};
+
+// Where each word starts, in bytes.
+const CHUNK_SIZE: usize = 8;
+
+const AVAILABLE_CHUNKS_LEN: usize = 16;
+
+const MAX_PTR: usize = 24;
+
+const FIRST_PTR: usize = 128;
+
+pub enum Popped {
+    Pointer(u64),
+    Nothing,
+}
+
+// Whether a chunk size is one of those offered.
+pub fn accepted(size: u64) -> bool
+    ensures { λ r. ⌜ r ≡ acceptedSize size ⌝ }
+{
+    match size {
+        4096 => true,
+        16384 => true,
+        65536 => true,
+        _ => false,
+    }
+}
+
+pub fn chunk_size(words: &[u8]) -> u64
+    requires { ⌜ 128 ≤ length (now words) ⌝ }
+    ensures { λ r. ⌜ r ≡ word (now (words .entry)) 8 ⌝ }
+{
+    words::get64(words, CHUNK_SIZE)
+}
+
+fn get_len(words: &[u8]) -> u64
+    requires { ⌜ 128 ≤ length (now words) ⌝ }
+    ensures { λ r. ⌜ r ≡ word (now (words .entry)) 16 ⌝ }
+{
+    words::get64(words, AVAILABLE_CHUNKS_LEN)
+}
+
+fn get_ptr(words: &[u8], index: usize) -> u64
+    requires { ⌜ 128 + 8 * index + 8 ≤ length (now words) ⌝ }
+    ensures { λ r. ⌜ r ≡ word (now (words .entry)) (128 + 8 * index) ⌝ }
+{
+    words::get64(words, FIRST_PTR + types::WORD * index)
+}
+
+// Word 3, which grows by the chunk size.
+fn get_next_max_ptr(words: &mut [u8]) -> u64
+    requires { ⌜ (128 ≤ length (now words)) × (word (now words) 24 + word (now words) 8 < 18446744073709551616) ⌝ }
+    ensures { λ r. ⌜ (r ≡ word (now (words .entry)) 24) × (now (words .exit) ≡ over (now (words .entry)) 24 (spell 8 (word (now (words .entry)) 24 + word (now (words .entry)) 8))) ⌝ }
+{
+    let next = words::get64(words, MAX_PTR);
+    let size = chunk_size(words);
+    words::put64(words, MAX_PTR, next + size);
+    next
+}
+
+fn push_ptr(words: &mut [u8], pointer: u64)
+    requires { ⌜ 128 + 8 * word (now words) 16 + 8 ≤ length (now words) ⌝ }
+    ensures { λ _. ⌜ now (words .exit) ≡ over (over (now (words .entry)) (128 + 8 * word (now (words .entry)) 16) (spell 8 pointer)) 16 (spell 8 (word (now (words .entry)) 16 + 1)) ⌝ }
+{
+    let len = get_len(words);
+    words::put64(words, FIRST_PTR + types::WORD * (len as usize), pointer);
+    words::put64(words, AVAILABLE_CHUNKS_LEN, len + 1);
+}
+
+// The pointer last freed. Its word keeps the old number.
+fn pop_ptr(words: &mut [u8]) -> Popped
+    requires { ⌜ (128 ≤ length (now words)) × (128 + 8 * word (now words) 16 ≤ length (now words)) ⌝ }
+    ensures { λ r. ⌜ (r ≡ lastFree (now (words .entry))) × (now (words .exit) ≡ withoutLast (now (words .entry))) ⌝ }
+{
+    let len = get_len(words);
+    if len == 0 {
+        return Popped::Nothing;
+    }
+    let pointer = get_ptr(words, (len - 1) as usize);
+    words::put64(words, AVAILABLE_CHUNKS_LEN, len - 1);
+    Popped::Pointer(pointer)
+}
+
+// The free pointer last freed, else a new one.
+pub fn allocate(words: &mut [u8]) -> u64
+    requires { ⌜ (Formed (now words)) × (Takable (now words)) ⌝ }
+    ensures { λ r. ⌜ (r ≡ allocate (readAllocator (now (words .entry))) .pointer) × (now (words .exit) ≡ layAllocator (allocate (readAllocator (now (words .entry))) .after)) ⌝ }
+{
+    let popped = pop_ptr(words);
+    match popped {
+        Popped::Pointer(pointer) => pointer,
+        Popped::Nothing => get_next_max_ptr(words),
+    }
+}
+
+pub fn free(words: &mut [u8], pointer: u64)
+    requires { ⌜ (Formed (now words)) × (128 + 8 * word (now words) 16 + 8 ≤ length (now words)) ⌝ }
+    ensures { λ _. ⌜ now (words .exit) ≡ layAllocator (release pointer (readAllocator (now (words .entry)))) ⌝ }
+{
+    push_ptr(words, pointer);
+}
+
+// The size may change only while no chunk was ever given out.
+pub fn set_chunk_size(words: &mut [u8], size: u64) -> Answer
+    requires { ⌜ Formed (now words) ⌝ }
+    ensures { λ r. ⌜ (r ≡ setChunkSize size (readAllocator (now (words .entry))) .answer) × (now (words .exit) ≡ layAllocator (setChunkSize size (readAllocator (now (words .entry))) .after)) ⌝ }
+{
+    if !accepted(size) {
+        return Answer::Refused(Error::InvalidArgument);
+    }
+    if chunk_size(words) == size {
+        return Answer::Done(0);
+    }
+    if words::get64(words, MAX_PTR) != 0 {
+        return Answer::Refused(Error::InvalidArgument);
+    }
+    words::put64(words, CHUNK_SIZE, size);
+    Answer::Done(0)
+}
