@@ -1,0 +1,21 @@
+// Test vectors: numbers read from text, and a checksum to tell many bytes by.
+// Text holds numbers in lower-case hexadecimal, with any other bytes between them.
+mod scan;
+mod sum;
+
+pub use scan::Scan;
+pub use scan::number;
+pub use scan::numbers;
+pub use sum::checksum;
+ghost use mathlib.Core.Path.{_≡_};
+ghost use lib.ListN.{length};
+
+// The bytes of text that a program makes room for.
+pub const ROOM: usize = 1_048_576;
+
+// Zeros, for a program to read its text into.
+pub fn blank() -> [u8; ROOM]
+    ensures { λ r. ⌜ 1048576 ≡ length r ⌝ }
+{
+    [0; ROOM]
+}
