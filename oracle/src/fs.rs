@@ -1,0 +1,3 @@
+//! Stand-in, inert: types.rs takes this name from here.
+
+pub use crate::runtime::types::ChunkType;

@@ -1,0 +1,4 @@
+include!(concat!(
+    env!("RUST_FOLDER"),
+    "/stable-fs/src/storage/types.rs"
+));
