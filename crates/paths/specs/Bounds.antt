@@ -1,12 +1,12 @@
 -- The same walk on bounds: where each part starts and how long it is, in two arrays. A part that `..` drops leaves its bounds behind, past the count.
 -- Assumes nothing.
 use Prim.Native.Nat.{ℕ, zero, suc, _+_, _-_}
-use mathlib.Core.Bool.{Bool, true, false, not}
-use mathlib.Core.List.{List, [], _∷_, _++_}
+use mathlib.Core.Bool.{Bool, true, false}
+use mathlib.Core.List.{List, [], _∷_}
 use lib.ListN.{length, getD, set}
 use lib.Dec.{eqb, ltb}
 use Rattle.words.specs.Bytes.{part}
-use Rattle.words.specs.Rule.{pick, both, either}
+use Rattle.words.specs.Rule.{pick, both}
 use Rattle.types.specs.Sizes.{mostPath}
 use Rattle.paths.specs.declared.Cut.{Cut}
 use Rattle.paths.specs.declared.Cut.the-variants.{Parts, NotPermitted, TooLong}

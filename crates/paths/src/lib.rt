@@ -23,6 +23,7 @@ struct Piece {
     dots: usize,
 }
 
+// What a piece is: empty or `.`, `..`, or a name.
 enum Sort {
     Dropped,
     Upward,
@@ -86,7 +87,7 @@ fn read_piece(path: &[u8], at: usize) -> Piece
     }
 }
 
-// A piece that is all dots is empty, `.`, `..` or a name.
+// Only a piece that is all dots can be other than a name, and it is by its length.
 fn sort_of(length: usize, dots: usize) -> Sort
     ensures { λ r. ⌜ r ≡ sortOf length dots ⌝ }
 {
@@ -101,14 +102,14 @@ fn sort_of(length: usize, dots: usize) -> Sort
     }
 }
 
-// What a piece makes of the parts so far. Each part has taken a byte and a slash at least, so there is room for one more.
+// What a piece makes of the parts so far. Each part before it took a byte and a slash at least, so there is room for one more.
 fn place_piece(
     at: usize,
     length: usize,
     dots: usize,
     count: usize,
-    starts: &mut [u16; 2048],
-    lengths: &mut [u16; 2048],
+    starts: &mut [u16; types::MOST_PARTS],
+    lengths: &mut [u16; types::MOST_PARTS],
 ) -> Step
     requires { ⌜ (2 * count ≤ at) × (at + length ≤ mostPath) × (dots ≤ length) ⌝ }
     ensures { λ r. ⌜ (placed r (now (starts .exit)) (now (lengths .exit)) ≡ placedAs (sortOf length dots) at length count (now (starts .entry)) (now (lengths .entry))) × (2 * partsAfter r ≤ at + length + 1) ⌝ }
@@ -131,7 +132,11 @@ fn place_piece(
 }
 
 // The parts of a path, as their bounds in two lent arrays.
-pub fn get_path_parts(path: &[u8], starts: &mut [u16; 2048], lengths: &mut [u16; 2048]) -> Cut
+pub fn get_path_parts(
+    path: &[u8],
+    starts: &mut [u16; types::MOST_PARTS],
+    lengths: &mut [u16; types::MOST_PARTS],
+) -> Cut
     ensures { λ r. ⌜ cutout r (now (starts .exit)) (now (lengths .exit)) ≡ cutBounds (now (path .entry)) (now (starts .entry)) (now (lengths .entry)) ⌝ }
 {
     if types::MOST_PATH < path.len() {
