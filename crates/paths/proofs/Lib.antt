@@ -1,0 +1,8 @@
+pub mod Sorts
+pub mod Names
+pub mod Scan
+pub mod Walk
+pub mod Shown
+pub mod Told
+pub mod Parts
+pub mod Examples
