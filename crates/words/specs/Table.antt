@@ -4,8 +4,10 @@ use mathlib.Core.Path.{_≡_}
 use Prim.Native.Nat.{ℕ, zero, suc, _+_, _-_, _*_}
 use mathlib.Core.Bool.{Bool, true, false}
 use mathlib.Core.List.{List, [], _∷_, _++_}
+use mathlib.Core.Option.{Option, none, some}
 use lib.ListN.{length, take, drop}
 use Rattle.words.specs.Bytes.{part, spell, zeros}
+use Rattle.words.specs.Rule.{pick}
 
 -- the n rows of s bytes from index at
 unfoldable pub table : {R : Type 0} → (List ℕ → R) → ℕ → List ℕ → ℕ → ℕ → List R
@@ -46,6 +48,12 @@ leadOf false k = 0
 unfoldable pub lead : {R : Type 0} → (R → Bool) → List R → ℕ
 lead f [] = 0
 lead f (r ∷ rs) = leadOf (f r) (lead f rs)
+
+-- the first row that passes the test
+unfoldable pub find : {R : Type 0} → (R → Bool) → List R → Option R
+unfolding pick
+find f [] = none
+find f (r ∷ rs) = pick (f r) (some r) (find f rs)
 
 -- P holds of every row
 unfoldable pub Each : {R : Type 0} → (R → Type 0) → List R → Type 0

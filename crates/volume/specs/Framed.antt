@@ -1,0 +1,103 @@
+-- The form of the bytes: what has to hold so that the tables, laid out again, are the bytes. The scope's "The volume", sentence by sentence.
+-- Assumes nothing.
+use mathlib.Core.Path.{_≡_}
+use mathlib.Core.Bool.{true}
+use mathlib.Core.Logic.{_⊎_}
+use Prim.Native.Nat.{ℕ, _+_, _-_, _*_, _^_, _≤_, _<_}
+use mathlib.Core.List.{List}
+use lib.ListN.{length}
+use Rattle.words.specs.Bytes.{part, word, num, zeros}
+use Rattle.words.specs.Table.{Each}
+use Rattle.types.specs.Sizes.{mostRows, leastArea, mostSize, mostName, nameRoom}
+use Rattle.types.specs.Nodes.{limitWord}
+use Rattle.types.specs.declared.NodeRecord.{NodeRecord}
+use Rattle.allocator.specs.Sizes.{acceptedSize}
+use Rattle.allocator.specs.Allocator.{marker, wordsOf}
+use Rattle.volume.specs.declared.ChunkRow.{ChunkRow}
+use Rattle.volume.specs.Rows.{Entry}
+use Rattle.volume.specs.Volume.{Volume, form, shown, laid, atNodes, atEntries, atChunks, atBytes}
+
+-- N, E and C are 1 to 4,096, and the length is at least 65,728 + 40N + 280E + 32C
+pub record Placed (n e c size : ℕ) : Type 0 where
+  pub nodes : (1 ≤ n) × (n ≤ mostRows)
+  pub entries : (1 ≤ e) × (e ≤ mostRows)
+  pub chunks : (1 ≤ c) × (c ≤ mostRows)
+  pub long : atBytes n e c + leastArea ≤ size
+
+-- the header: form 1, the geometry, used counts that fit
+pub record Headed (l : List ℕ) : Type 0 where
+  pub least : 64 ≤ length l
+  pub formed : word l 0 ≡ form
+  pub placed : Placed (word l 8) (word l 16) (word l 24) (length l)
+  pub nodes : word l 32 ≤ word l 8
+  pub entries : word l 40 ≤ word l 16
+  pub chunks : word l 48 ≤ word l 24
+
+-- the allocator's words: the marker, an accepted chunk size, a free count that fits
+pub record Marked (l : List ℕ) : Type 0 where
+  pub mark : word l 64 ≡ marker
+  pub size : acceptedSize (word l 72) ≡ true
+  pub free : word l 80 ≤ word l 24
+
+-- a node's row: a type, a flag, six zeros, a limit of at most 2^40 that is 0 without the flag
+pub record NodeFormed (l : List ℕ) (at : ℕ) : Type 0 where
+  pub kind : num 1 l (at + 8) ≤ 2
+  pub limit : ((num 1 l (at + 9) ≡ 0) × (word l (at + 32) ≡ 0)) ⊎ ((num 1 l (at + 9) ≡ 1) × (word l (at + 32) ≤ mostSize))
+  pub spare : part l (at + 10) 6 ≡ zeros 6
+
+-- an entry's row: a name of 1 to 255 bytes, and the rest of its 256 bytes zero
+pub record EntryFormed (l : List ℕ) (at : ℕ) : Type 0 where
+  pub least : 1 ≤ num 4 l (at + 20)
+  pub most : num 4 l (at + 20) ≤ mostName
+  pub rest : part l (at + 24 + num 4 l (at + 20)) (nameRoom - num 4 l (at + 20)) ≡ zeros (nameRoom - num 4 l (at + 20))
+
+-- rows of s bytes in use, and zeros behind them
+pub record RowsFormed (Row : ℕ → Type 0) (s : ℕ) (l : List ℕ) (at used room : ℕ) : Type 0 where
+  pub rows : (i : ℕ) → i < used → Row (at + s * i)
+  pub unused : part l (at + s * used) (s * (room - used)) ≡ zeros (s * (room - used))
+
+pub record Framed (l : List ℕ) : Type 0 where
+  pub headed : Headed l
+  pub marked : Marked l
+  pub nodes : RowsFormed (NodeFormed l) 40 l (atNodes (word l 24)) (word l 32) (word l 8)
+  pub entries : RowsFormed (EntryFormed l) 280 l (atEntries (word l 8) (word l 24)) (word l 40) (word l 16)
+  pub chunks : RowsFormed (λ _. Unit {0}) 24 l (atChunks (word l 8) (word l 16) (word l 24)) (word l 48) (word l 24)
+
+-- ---- the same of a volume: what fits into bytes
+
+pub record NodeFits (r : NodeRecord) : Type 0 where
+  pub node : r .node < 2 ^ 64
+  pub links : r .links < 2 ^ 64
+  pub size : r .size < 2 ^ 64
+  pub limit : limitWord (r .limit) ≤ mostSize
+
+pub record EntryFits (e : Entry) : Type 0 where
+  pub parent : e .parent < 2 ^ 64
+  pub node : e .node < 2 ^ 64
+  pub index : e .index < 2 ^ 32
+  pub name : (1 ≤ length (e .name)) × (length (e .name) ≤ mostName)
+
+pub record ChunkFits (r : ChunkRow) : Type 0 where
+  pub node : r .node < 2 ^ 64
+  pub index : r .index < 2 ^ 64
+  pub pointer : r .pointer < 2 ^ 64
+
+pub record Fits (v : Volume) : Type 0 where
+  pub placed : Placed (v .nodeRoom) (v .entryRoom) (v .chunkRoom) (atBytes (v .nodeRoom) (v .entryRoom) (v .chunkRoom) + length (v .bytes))
+  pub nextNode : v .nextNode < 2 ^ 64
+  pub nodes : length (v .nodes) ≤ v .nodeRoom
+  pub entries : length (v .entries) ≤ v .entryRoom
+  pub chunks : length (v .chunks) ≤ v .chunkRoom
+  pub twelve : length (v .allocator .unread) ≡ 12
+  pub words : length (v .allocator .words) ≡ v .chunkRoom
+  pub small : Each (λ w. w < 2 ^ 64) (wordsOf (v .allocator))
+  pub size : acceptedSize (v .allocator .chunkSize) ≡ true
+  pub free : v .allocator .freeCount ≤ v .chunkRoom
+  pub nodeRows : Each NodeFits (v .nodes)
+  pub entryRows : Each EntryFits (v .entries)
+  pub chunkRows : Each ChunkFits (v .chunks)
+
+-- bytes that are a volume laid out
+pub record Formed (l : List ℕ) : Type 0 where
+  pub same : laid (shown l) ≡ l
+  pub fits : Fits (shown l)

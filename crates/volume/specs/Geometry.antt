@@ -1,0 +1,23 @@
+-- Where each area starts, for any numbers that a header may hold.
+-- Assumes nothing.
+use Prim.Native.Nat.{ℕ, _+_, _*_}
+use mathlib.Core.Bool.{Bool}
+use lib.Dec.{leb}
+use Rattle.words.specs.Rule.{pick, both}
+use Rattle.types.specs.Sizes.{mostRows, leastArea}
+use Rattle.volume.specs.declared.Layout.{Layout}
+use Rattle.volume.specs.declared.Place.{Place}
+use Rattle.volume.specs.declared.Place.the-variants.{At, Nowhere}
+use Rattle.volume.specs.Volume.{atNodes, atEntries, atChunks, atBytes}
+
+unfoldable pub roomy : ℕ → Bool
+roomy n = both (leb 1 n) (leb n mostRows)
+
+abbrev pub layoutOf : ℕ → ℕ → ℕ → Layout
+layoutOf n e c = record { nodes = atNodes c; entries = atEntries n c; chunks = atChunks n e c; bytes = atBytes n e c }
+
+unfoldable pub placed : ℕ → ℕ → ℕ → ℕ → Bool
+placed n e c size = both (roomy n) (both (roomy e) (both (roomy c) (leb (atBytes n e c + leastArea) size)))
+
+unfoldable pub placeOf : ℕ → ℕ → ℕ → ℕ → Place
+placeOf n e c size = pick (placed n e c size) (At (layoutOf n e c)) Nowhere

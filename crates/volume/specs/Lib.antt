@@ -1,0 +1,7 @@
+pub mod Rows
+pub mod Volume
+pub mod Framed
+pub mod Geometry
+pub mod Search
+pub mod Fresh
+pub mod Sound

@@ -1,0 +1,67 @@
+// Where the areas start, from the rooms of the tables and the length.
+use crate::Layout;
+use crate::Place;
+
+ghost use mathlib.Core.Path.{_≡_};
+ghost use Prim.Native.Nat.{_≤_};
+ghost use Rattle.words.specs.Bytes.{word};
+ghost use Rattle.types.specs.Sizes.{mostRows};
+ghost use Rattle.volume.specs.Geometry.{roomy, layoutOf, placeOf};
+ghost use Rattle.volume.specs.Framed.{Headed};
+
+const HEADER: u64 = 64;
+const ALLOCATOR: u64 = 128;
+
+fn is_roomy(rows: u64) -> bool
+    ensures { λ r. ⌜ r ≡ roomy rows ⌝ }
+{
+    if rows < 1 {
+        return false;
+    }
+    rows <= types::MOST_ROWS
+}
+
+// Room for tables of so many rows.
+fn starts(nodes: u64, entries: u64, chunks: u64) -> Layout
+    requires { ⌜ (nodes ≤ mostRows) × (entries ≤ mostRows) × (chunks ≤ mostRows) ⌝ }
+    ensures { λ r. ⌜ r ≡ layoutOf nodes entries chunks ⌝ }
+{
+    let first = 192 + types::WORD * (chunks as usize);
+    let second = first + types::NODE_ROW * (nodes as usize);
+    let third = second + types::ENTRY_ROW * (entries as usize);
+    Layout {
+        nodes: first,
+        entries: second,
+        chunks: third,
+        bytes: third + types::CHUNK_ROW * (chunks as usize),
+    }
+}
+
+// The areas of a memory of so many bytes, for any numbers: nowhere if a table's room is out of bounds or the memory too short.
+pub fn place_tables(nodes: u64, entries: u64, chunks: u64, size: u64) -> Place
+    ensures { λ r. ⌜ r ≡ placeOf nodes entries chunks size ⌝ }
+{
+    if !is_roomy(nodes) {
+        return Place::Nowhere;
+    }
+    if !is_roomy(entries) {
+        return Place::Nowhere;
+    }
+    if !is_roomy(chunks) {
+        return Place::Nowhere;
+    }
+    let layout = starts(nodes, entries, chunks);
+    let bytes = layout.bytes as u64;
+    if size < bytes + types::LEAST_AREA {
+        return Place::Nowhere;
+    }
+    Place::At(layout)
+}
+
+// The areas of a volume whose header was checked.
+pub fn read_layout(volume: &[u8]) -> Layout
+    requires { ⌜ Headed (now volume) ⌝ }
+    ensures { λ r. ⌜ r ≡ layoutOf (word (now (volume .entry)) 8) (word (now (volume .entry)) 16) (word (now (volume .entry)) 24) ⌝ }
+{
+    starts(words::get64(volume, 8), words::get64(volume, 16), words::get64(volume, 24))
+}

@@ -1,0 +1,41 @@
+// The volume's tables in lent bytes: where they stand, their rows, and a new volume.
+mod chunks;
+mod entries;
+mod fresh;
+mod geometry;
+mod nodes;
+
+pub use chunks::read_chunk;
+pub use chunks::seek_chunk;
+pub use chunks::write_chunk;
+pub use entries::entry_index;
+pub use entries::entry_name;
+pub use entries::entry_node;
+pub use entries::entry_parent;
+pub use entries::seek_entry;
+pub use entries::write_entry;
+pub use fresh::new_volume;
+pub use geometry::place_tables;
+pub use geometry::read_layout;
+pub use nodes::read_node;
+pub use nodes::seek_node;
+pub use nodes::write_node;
+
+pub struct ChunkRow {
+    pub node: u64,
+    pub index: u64,
+    pub pointer: u64,
+}
+
+// Where each area starts.
+pub struct Layout {
+    pub nodes: usize,
+    pub entries: usize,
+    pub chunks: usize,
+    pub bytes: usize,
+}
+
+pub enum Place {
+    At(Layout),
+    Nowhere,
+}

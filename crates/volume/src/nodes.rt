@@ -1,0 +1,71 @@
+// Rows of the node table.
+use types::FileType;
+use types::Kind;
+use types::NodeRecord;
+
+ghost use mathlib.Core.Path.{_≡_};
+ghost use Prim.Native.Nat.{_+_, _*_, _≤_};
+ghost use lib.ListN.{length};
+ghost use Rattle.words.specs.Bytes.{part, over};
+ghost use Rattle.words.specs.Table.{table, lead, Falls};
+ghost use Rattle.volume.specs.Rows.{kindOr, layNode, readNode};
+ghost use Rattle.volume.specs.Search.{nodeUnder};
+
+fn known(kind: Kind) -> FileType
+    ensures { λ r. ⌜ r ≡ kindOr kind ⌝ }
+{
+    match kind {
+        Kind::Known(known) => known,
+        Kind::Unknown => FileType::Directory,
+    }
+}
+
+// The row whose bytes start at index at.
+pub fn read_node(volume: &[u8], at: usize) -> NodeRecord
+    requires { ⌜ at + 40 ≤ length (now volume) ⌝ }
+    ensures { λ r. ⌜ r ≡ readNode (part (now (volume .entry)) at 40) ⌝ }
+{
+    let byte = words::get8(volume, at + 8) as u8;
+    let flag = words::get8(volume, at + 9) as u8;
+    let kind = known(types::kind_of(byte));
+    let limit = types::limit_of(flag, words::get64(volume, at + 32));
+    NodeRecord {
+        node: words::get64(volume, at),
+        kind,
+        limit,
+        links: words::get64(volume, at + 16),
+        size: words::get64(volume, at + 24),
+    }
+}
+
+pub fn write_node(volume: &mut [u8], at: usize, row: NodeRecord)
+    requires { ⌜ at + 40 ≤ length (now volume) ⌝ }
+    ensures { λ _. ⌜ now (volume .exit) ≡ over (now (volume .entry)) at (layNode row) ⌝ }
+{
+    let kind = row.kind;
+    let limit = row.limit;
+    words::put64(volume, at, row.node);
+    words::put8(volume, at + 8, types::kind_byte(kind) as u64);
+    words::put8(volume, at + 9, types::limit_flag(limit) as u64);
+    words::clear(volume, at + 10, 6);
+    let rest = [row.links, row.size, types::limit_word(limit)];
+    words::put_words(volume, at + 16, &rest);
+}
+
+// How many of the rows stand before a node, by halving.
+pub fn seek_node(volume: &[u8], base: usize, used: usize, node: u64) -> usize
+    requires { ⌜ (base + 40 * used ≤ length (now volume)) × Falls (nodeUnder node) (table readNode 40 (now volume) base used) ⌝ }
+    ensures { λ r. ⌜ (r ≡ lead (nodeUnder node) (table readNode 40 (now (volume .entry)) base used)) × (r ≤ used) ⌝ }
+{
+    let mut low = 0;
+    let mut high = used;
+    while low < high {
+        let middle = low + (high - low) / 2;
+        if words::get64(volume, base + types::NODE_ROW * middle) < node {
+            low = middle + 1;
+        } else {
+            high = middle;
+        }
+    }
+    low
+}
