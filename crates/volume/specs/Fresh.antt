@@ -34,9 +34,13 @@ fresh n e c s area = record {
   bytes = zeros area;
 }
 
+-- the bytes of one in a memory of so many
+unfoldable pub freshLaid : ℕ → ℕ → ℕ → ℕ → ℕ → List ℕ
+freshLaid n e c s size = laid (fresh n e c s (size - atBytes n e c))
+
 -- 13 for the geometry, the length, and the chunk size
 unfoldable pub newVolume : ℕ → ℕ → ℕ → ℕ → List ℕ → Outcome
 newVolume n e c s l =
     pick (placed n e c (length l))
-    (pick (acceptedSize s) (done 0 (laid (fresh n e c s (length l - atBytes n e c)))) (refused InvalidArgument l))
+    (pick (acceptedSize s) (done 0 (freshLaid n e c s (length l))) (refused InvalidArgument l))
     (refused InvalidArgument l)

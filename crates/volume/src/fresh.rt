@@ -1,32 +1,62 @@
 // A new volume.
 use types::Answer;
 use types::Error;
-
+use types::FileType;
+use types::Limit;
+use types::NodeRecord;
 
 use crate::Place;
 use crate::geometry::place_tables;
+use crate::nodes::write_node;
 
 ghost use mathlib.Core.Path.{_≡_};
-ghost use mathlib.Core.Bool.{true};
+ghost use Prim.Native.Nat.{_≤_};
 ghost use lib.ListN.{length};
-ghost use Prim.Native.Nat.{_-_, _≤_};
 ghost use Rattle.types.specs.Outcomes.{outcome};
-ghost use Rattle.volume.specs.Fresh.{newVolume};
+ghost use Rattle.volume.specs.Volume.{atNodes};
+ghost use Rattle.volume.specs.Framed.{Placed};
+ghost use Rattle.volume.specs.Fresh.{root, newVolume, freshLaid};
+
+// The form, and the allocator's marker: `FSA1` and four zero bytes.
+const FORM: u64 = 1;
+const MARKER: u64 = 826364742;
+
+// Node 0, a directory that no entry names.
+fn root() -> NodeRecord
+    ensures { λ r. ⌜ r ≡ root ⌝ }
+{
+    NodeRecord {
+        node: 0,
+        kind: FileType::Directory,
+        limit: Limit::Unlimited,
+        links: 1,
+        size: 0,
+    }
+}
+
+// Lays a new volume out. The allocator's words follow the header's, so that the marker and the chunk size are written with them.
+fn lay(volume: &mut [u8], nodes: u64, entries: u64, chunks: u64, size: u64, at: usize)
+    requires { ⌜ Placed nodes entries chunks (length (now volume)) × (at ≡ atNodes chunks) ⌝ }
+    ensures { λ _. ⌜ now (volume .exit) ≡ freshLaid nodes entries chunks size (length (now (volume .entry))) ⌝ }
+{
+    let whole = volume.len();
+    words::clear(volume, 0, whole);
+    let heads = [FORM, nodes, entries, chunks, 1, 0, 0, 1, MARKER, size];
+    words::put_words(volume, 0, &heads);
+    write_node(volume, at, root());
+}
 
 // Makes a volume of all of a memory, whatever it held. Refused numbers change nothing.
 pub fn new_volume(volume: &mut [u8], nodes: u64, entries: u64, chunks: u64, size: u64) -> Answer
     ensures { λ r. ⌜ outcome r (now (volume .exit)) ≡ newVolume nodes entries chunks size (now (volume .entry)) ⌝ }
 {
-    let Place::At(layout) = place_tables(nodes, entries, chunks, volume.len() as u64) else {
+    let place = place_tables(nodes, entries, chunks, volume.len() as u64);
+    let Place::At(layout) = place else {
         return Answer::Refused(Error::InvalidArgument);
     };
     if !allocator::accepted(size) {
         return Answer::Refused(Error::InvalidArgument);
     }
-    let at = layout.nodes;
-    let whole = volume.len();
-    words::clear(volume, 0, whole);
-    let heads = [1, nodes, entries, chunks, 1, 0, 0, 1, 826364742, size];
-    words::put_words(volume, 0, &heads);
+    lay(volume, nodes, entries, chunks, size, layout.nodes);
     Answer::Done(0)
 }

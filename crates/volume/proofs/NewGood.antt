@@ -1,0 +1,83 @@
+-- A new volume fits into bytes, and what its tables say is good.
+-- Assumes nothing.
+use mathlib.Core.Path.{_≡_, refl, sym, ap, _∙_}
+use mathlib.Core.Bool.{Bool, true, false}
+use mathlib.Core.List.{List, [], _∷_, _++_}
+use Prim.Native.Nat.{ℕ, zero, suc, _+_, _-_, _*_, _%_, _^_, _≤_, _<_}
+use native.Mathlib.Nat.{zero-mod}
+use native.Mathlib.Omega.{arith}
+use lib.ListN.{length, take}
+use Rattle.words.specs.Bytes.{zeros}
+use Rattle.words.specs.Rule.{pick, bit, times, count}
+use Rattle.words.specs.Table.{Each, Asc, find}
+use Rattle.words.proofs.Parts.{length-zeros}
+use Rattle.words.proofs.Order.{each-append}
+use Rattle.words.proofs.Counting.{count-none}
+use Rattle.types.specs.Sizes.{mostSize}
+use Rattle.types.specs.Nodes.{limitWord}
+use Rattle.types.specs.declared.FileType.the-variants.{Directory}
+use Rattle.types.specs.declared.NodeRecord.{NodeRecord}
+use Rattle.allocator.specs.Sizes.{acceptedSize}
+use Rattle.allocator.specs.Allocator.{Allocator, wordsOf, free, marker}
+use Rattle.allocator.specs.Pointers.{due}
+use Rattle.allocator.proofs.Sized.{accepted-bounds}
+use Rattle.allocator.proofs.Accounts.{due-none}
+use Rattle.volume.specs.Volume.{Volume, atBytes}
+use Rattle.volume.specs.Framed.{Placed, Fits, NodeFits}
+use Rattle.volume.specs.Fresh.{freshAllocator, root, fresh}
+use Rattle.volume.specs.Sound.{node, naming, entriesOf, NodeGood, Good}
+
+each-zero : (P : ℕ → Type 0) → P 0 → (n : ℕ) → Each P (zeros n)
+unfolding Each zeros
+each-zero P p zero = tt
+each-zero P p (suc n) = (p, each-zero P p n)
+
+small-words : (c s : ℕ) → s < 2 ^ 64 → Each (λ w. w < 2 ^ 64) (wordsOf (freshAllocator c s))
+unfolding wordsOf Each
+small-words c s h =
+    let z : 0 < 2 ^ 64 = omega arith in
+    (omega arith, (h, (z, (z, each-append (λ w. w < 2 ^ 64) (zeros 12) (zeros c) (each-zero (λ w. w < 2 ^ 64) z 12) (each-zero (λ w. w < 2 ^ 64) z c)))))
+
+pub fits-fresh : (n e c s size : ℕ) → Placed n e c size → acceptedSize s ≡ true → Fits (fresh n e c s (size - atBytes n e c))
+unfolding fresh Each
+fits-fresh n e c s size p h =
+    let k : atBytes n e c + length (zeros (size - atBytes n e c)) ≡ size = rw length-zeros (omega (arith, p .long)) in
+    let b = accepted-bounds s h in
+    record {
+      placed = rw k p;
+      nextNode = omega arith;
+      nodes = p .nodes .0;
+      entries = omega arith;
+      chunks = omega arith;
+      twelve = length-zeros 12;
+      words = length-zeros c;
+      small = small-words c s (omega arith);
+      size = h;
+      free = omega arith;
+      nodeRows = (record { node = omega arith; links = omega arith; size = omega arith; limit = omega arith }, tt);
+      entryRows = tt;
+      chunkRows = tt;
+    }
+
+pub good-fresh : (n e c s area : ℕ) → Good (fresh n e c s area)
+unfolding fresh Each Asc node find pick naming entriesOf times free bit
+good-fresh n e c s area =
+    record {
+      nodeOrder = (tt, tt);
+      entryOrder = tt;
+      chunkOrder = tt;
+      indexes = tt;
+      fresh = (omega arith, tt);
+      root = refl;
+      unnamed = refl;
+      names = tt;
+      parents = tt;
+      targets = tt;
+      once = tt;
+      nodes = (record { named = λ e. omega arith; unlimited = λ e. refl; entries = λ e. refl; unlinked = λ e k. refl; links = refl; size = omega arith }, tt);
+      owned = tt;
+      lined = zero-mod s;
+      inside = omega arith;
+      enough = omega arith;
+      pointers = λ p. omega (arith, due-none s 0 p (omega arith), count-none p);
+    }
