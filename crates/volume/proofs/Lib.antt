@@ -1,3 +1,4 @@
 pub mod Places
 pub mod NewLaid
 pub mod NewGood
+pub mod RowSteps

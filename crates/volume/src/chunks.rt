@@ -1,6 +1,6 @@
 // Rows of the chunk table.
 use crate::ChunkRow;
-
+use crate::pairs::pair_before;
 ghost use mathlib.Core.Path.{_≡_};
 ghost use Prim.Native.Nat.{_+_, _*_, _≤_};
 ghost use lib.ListN.{length};
@@ -9,6 +9,11 @@ ghost use Rattle.words.specs.Table.{table, lead, Falls};
 ghost use Rattle.volume.specs.Rows.{layChunk, readChunk};
 ghost use Rattle.volume.specs.Search.{chunkUnder};
 
+// Where the fields of a row start, behind its node.
+const INDEX: usize = 8;
+
+const POINTER: usize = 16;
+
 // The row whose bytes start at index at.
 pub fn read_chunk(volume: &[u8], at: usize) -> ChunkRow
     requires { ⌜ at + 24 ≤ length (now volume) ⌝ }
@@ -16,8 +21,8 @@ pub fn read_chunk(volume: &[u8], at: usize) -> ChunkRow
 {
     ChunkRow {
         node: words::get64(volume, at),
-        index: words::get64(volume, at + 8),
-        pointer: words::get64(volume, at + 16),
+        index: words::get64(volume, at + INDEX),
+        pointer: words::get64(volume, at + POINTER),
     }
 }
 
@@ -25,8 +30,21 @@ pub fn write_chunk(volume: &mut [u8], at: usize, row: ChunkRow)
     requires { ⌜ at + 24 ≤ length (now volume) ⌝ }
     ensures { λ _. ⌜ now (volume .exit) ≡ over (now (volume .entry)) at (layChunk row) ⌝ }
 {
-    let words = [row.node, row.index, row.pointer];
-    words::put_words(volume, at, &words);
+    let fields = [row.node, row.index, row.pointer];
+    words::put_words(volume, at, &fields);
+}
+
+// Whether the row whose bytes start at index at stands before (node, index).
+fn chunk_under(volume: &[u8], at: usize, node: u64, index: u64) -> bool
+    requires { ⌜ at + 24 ≤ length (now volume) ⌝ }
+    ensures { λ r. ⌜ r ≡ chunkUnder node index (readChunk (part (now (volume .entry)) at 24)) ⌝ }
+{
+    pair_before(
+        words::get64(volume, at),
+        words::get64(volume, at + INDEX),
+        node,
+        index,
+    )
 }
 
 // How many of the rows stand before (node, index), by halving.
@@ -34,5 +52,15 @@ pub fn seek_chunk(volume: &[u8], base: usize, used: usize, node: u64, index: u64
     requires { ⌜ (base + 24 * used ≤ length (now volume)) × Falls (chunkUnder node index) (table readChunk 24 (now volume) base used) ⌝ }
     ensures { λ r. ⌜ (r ≡ lead (chunkUnder node index) (table readChunk 24 (now (volume .entry)) base used)) × (r ≤ used) ⌝ }
 {
-    0
+    let mut low = 0;
+    let mut high = used;
+    while low < high {
+        let middle = low + (high - low) / 2;
+        if chunk_under(volume, base + types::CHUNK_ROW * middle, node, index) {
+            low = middle + 1;
+        } else {
+            high = middle;
+        }
+    }
+    low
 }

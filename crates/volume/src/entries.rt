@@ -1,4 +1,5 @@
 // Rows of the entry table. A name stands in the volume: it is lent, and never copied out.
+use crate::pairs::pair_before;
 ghost use mathlib.Core.Path.{_≡_};
 ghost use Prim.Native.Nat.{_+_, _*_, _≤_, _<_};
 ghost use lib.ListN.{length};
@@ -7,6 +8,15 @@ ghost use Rattle.words.specs.Table.{table, lead, Falls};
 ghost use Rattle.types.specs.Sizes.{nameRoom};
 ghost use Rattle.volume.specs.Rows.{layEntry, readEntry};
 ghost use Rattle.volume.specs.Search.{entryUnder};
+
+// Where the fields of a row start, behind its parent: node, index, the name's length, the name.
+const NODE: usize = 8;
+
+const INDEX: usize = 16;
+
+const NAME_SIZE: usize = 20;
+
+const NAME: usize = 24;
 
 // Fields of the row whose bytes start at index at.
 pub fn entry_parent(volume: &[u8], at: usize) -> u64
@@ -20,22 +30,22 @@ pub fn entry_node(volume: &[u8], at: usize) -> u64
     requires { ⌜ at + 280 ≤ length (now volume) ⌝ }
     ensures { λ r. ⌜ r ≡ readEntry (part (now (volume .entry)) at 280) .node ⌝ }
 {
-    words::get64(volume, at + 8)
+    words::get64(volume, at + NODE)
 }
 
 pub fn entry_index(volume: &[u8], at: usize) -> u64
     requires { ⌜ at + 280 ≤ length (now volume) ⌝ }
     ensures { λ r. ⌜ (r ≡ readEntry (part (now (volume .entry)) at 280) .index) × (r < 4294967296) ⌝ }
 {
-    words::get32(volume, at + 16)
+    words::get32(volume, at + INDEX)
 }
 
 pub fn entry_name(volume: &[u8], at: usize) -> &[u8]
     requires { ⌜ (at + 280 ≤ length (now volume)) × (num 4 (now volume) (at + 20) ≤ nameRoom) ⌝ }
     ensures { λ r. ⌜ now r ≡ readEntry (part (now (volume .entry)) at 280) .name ⌝ }
 {
-    let start = at + 24;
-    let size = words::get32(volume, at + 20) as usize;
+    let start = at + NAME;
+    let size = words::get32(volume, at + NAME_SIZE) as usize;
     &volume[start..start + size]
 }
 
@@ -43,12 +53,26 @@ pub fn write_entry(volume: &mut [u8], at: usize, parent: u64, node: u64, index: 
     requires { ⌜ (at + 280 ≤ length (now volume)) × (length (now name) ≤ nameRoom) ⌝ }
     ensures { λ _. ⌜ now (volume .exit) ≡ over (now (volume .entry)) at (layEntry (record { parent = parent; node = node; index = index; name = now (name .entry) })) ⌝ }
 {
+    let size = name.len();
     words::put64(volume, at, parent);
-    words::put64(volume, at + 8, node);
-    words::put32(volume, at + 16, index);
-    words::put32(volume, at + 20, name.len() as u64);
-    words::copy(volume, at + 24, name);
-    words::clear(volume, at + 24 + name.len(), types::NAME_ROOM - name.len());
+    words::put64(volume, at + NODE, node);
+    words::put32(volume, at + INDEX, index);
+    words::put32(volume, at + NAME_SIZE, size as u64);
+    words::copy(volume, at + NAME, name);
+    words::clear(volume, at + NAME + size, types::NAME_ROOM - size);
+}
+
+// Whether the row whose bytes start at index at stands before (parent, index).
+fn entry_under(volume: &[u8], at: usize, parent: u64, index: u64) -> bool
+    requires { ⌜ at + 280 ≤ length (now volume) ⌝ }
+    ensures { λ r. ⌜ r ≡ entryUnder parent index (readEntry (part (now (volume .entry)) at 280)) ⌝ }
+{
+    pair_before(
+        entry_parent(volume, at),
+        entry_index(volume, at),
+        parent,
+        index,
+    )
 }
 
 // How many of the rows stand before (parent, index), by halving.
@@ -56,5 +80,15 @@ pub fn seek_entry(volume: &[u8], base: usize, used: usize, parent: u64, index: u
     requires { ⌜ (base + 280 * used ≤ length (now volume)) × Falls (entryUnder parent index) (table readEntry 280 (now volume) base used) ⌝ }
     ensures { λ r. ⌜ (r ≡ lead (entryUnder parent index) (table readEntry 280 (now (volume .entry)) base used)) × (r ≤ used) ⌝ }
 {
-    0
+    let mut low = 0;
+    let mut high = used;
+    while low < high {
+        let middle = low + (high - low) / 2;
+        if entry_under(volume, base + types::ENTRY_ROW * middle, parent, index) {
+            low = middle + 1;
+        } else {
+            high = middle;
+        }
+    }
+    low
 }

@@ -4,6 +4,7 @@ mod entries;
 mod fresh;
 mod geometry;
 mod nodes;
+mod pairs;
 
 pub use chunks::read_chunk;
 pub use chunks::seek_chunk;

@@ -2,7 +2,6 @@
 use types::FileType;
 use types::Kind;
 use types::NodeRecord;
-
 ghost use mathlib.Core.Path.{_≡_};
 ghost use Prim.Native.Nat.{_+_, _*_, _≤_};
 ghost use lib.ListN.{length};
@@ -11,6 +10,23 @@ ghost use Rattle.words.specs.Table.{table, lead, Falls};
 ghost use Rattle.volume.specs.Rows.{kindOr, layNode, readNode};
 ghost use Rattle.volume.specs.Search.{nodeUnder};
 
+// Where the fields of a row start, behind its node: the type byte, the limit flag, zeros, links, size and limit.
+const KIND: usize = 8;
+
+const FLAG: usize = 9;
+
+const SPARE: usize = 10;
+
+const LINKS: usize = 16;
+
+const SIZE: usize = 24;
+
+const LIMIT: usize = 32;
+
+// How many zeros stand behind the flag.
+const SPARE_SIZE: usize = 6;
+
+// A byte that means no kind is taken for a directory; no row of a framed volume has one.
 fn known(kind: Kind) -> FileType
     ensures { λ r. ⌜ r ≡ kindOr kind ⌝ }
 {
@@ -25,16 +41,16 @@ pub fn read_node(volume: &[u8], at: usize) -> NodeRecord
     requires { ⌜ at + 40 ≤ length (now volume) ⌝ }
     ensures { λ r. ⌜ r ≡ readNode (part (now (volume .entry)) at 40) ⌝ }
 {
-    let byte = words::get8(volume, at + 8) as u8;
-    let flag = words::get8(volume, at + 9) as u8;
+    let byte = words::get8(volume, at + KIND) as u8;
+    let flag = words::get8(volume, at + FLAG) as u8;
     let kind = known(types::kind_of(byte));
-    let limit = types::limit_of(flag, words::get64(volume, at + 32));
+    let limit = types::limit_of(flag, words::get64(volume, at + LIMIT));
     NodeRecord {
         node: words::get64(volume, at),
         kind,
         limit,
-        links: words::get64(volume, at + 16),
-        size: words::get64(volume, at + 24),
+        links: words::get64(volume, at + LINKS),
+        size: words::get64(volume, at + SIZE),
     }
 }
 
@@ -44,12 +60,14 @@ pub fn write_node(volume: &mut [u8], at: usize, row: NodeRecord)
 {
     let kind = row.kind;
     let limit = row.limit;
-    words::put64(volume, at, row.node);
-    words::put8(volume, at + 8, types::kind_byte(kind) as u64);
-    words::put8(volume, at + 9, types::limit_flag(limit) as u64);
-    words::clear(volume, at + 10, 6);
+    let byte = types::kind_byte(kind) as u64;
+    let flag = types::limit_flag(limit) as u64;
     let rest = [row.links, row.size, types::limit_word(limit)];
-    words::put_words(volume, at + 16, &rest);
+    words::put64(volume, at, row.node);
+    words::put8(volume, at + KIND, byte);
+    words::put8(volume, at + FLAG, flag);
+    words::clear(volume, at + SPARE, SPARE_SIZE);
+    words::put_words(volume, at + LINKS, &rest);
 }
 
 // How many of the rows stand before a node, by halving.

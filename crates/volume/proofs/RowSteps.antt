@@ -1,0 +1,171 @@
+-- What the functions of rows do, step by step: a row read field by field, a row written piece by piece, and a search by halving.
+-- Assumes nothing.
+use mathlib.Core.Path.{_≡_, refl, sym}
+use mathlib.Core.Bool.{Bool, true, false}
+use mathlib.Core.List.{List, [], _∷_, append-nil}
+use Prim.Native.Nat.{ℕ, _+_, _-_, _*_, _/_, _≤_, _<_}
+use native.Mathlib.Nat.{add-zero}
+use native.Mathlib.Omega.{arith}
+use lib.ListN.{length, take, drop, length-append}
+use borrow.Author.Tests.{lt-ltb, le-ltb}
+use Rattle.words.specs.Bytes.{part, over, spell, num, word, zeros, padded}
+use Rattle.words.specs.Table.{table, layAll, layWords, joined, lead, Falls}
+use Rattle.words.proofs.Parts.{length-zeros, length-over, two, part-part}
+use Rattle.words.proofs.Numbers.{length-spell, num-part}
+use Rattle.words.proofs.Tables.{length-table, length-padded, padded-short}
+use Rattle.words.proofs.Search.{lead-le, seek-up, seek-down}
+use Rattle.types.specs.Nodes.{kindOf, kindByte, limitOf, limitFlag, limitWord}
+use Rattle.types.specs.declared.FileType.{FileType}
+use Rattle.types.specs.declared.Kind.{Kind}
+use Rattle.types.specs.declared.Limit.{Limit}
+use Rattle.types.specs.declared.NodeRecord.{NodeRecord}
+use Rattle.volume.specs.declared.ChunkRow.{ChunkRow}
+use Rattle.volume.specs.Rows.{Entry, kindOr, layNode, readNode, layEntry, readEntry, layChunk, readChunk}
+use Rattle.volume.specs.Search.{pairBefore, nodeUnder, chunkUnder}
+
+-- ---- a row read field by field: the fields, as they stand in the bytes l around the row
+
+module _ (l : List ℕ) (at : ℕ) where
+  pub node-fields : readNode (part l at 40) ≡ record { node = word l at; kind = kindOr (kindOf (num 1 l (at + 8))); limit = limitOf (num 1 l (at + 9)) (word l (at + 32)); links = word l (at + 16); size = word l (at + 24) }
+  unfolding readNode
+  node-fields =
+      rw (
+        num-part 8 l at 40 0 (omega arith),
+        num-part 1 l at 40 8 (omega arith),
+        num-part 1 l at 40 9 (omega arith),
+        num-part 8 l at 40 16 (omega arith),
+        num-part 8 l at 40 24 (omega arith),
+        num-part 8 l at 40 32 (omega arith),
+        add-zero,
+      )
+
+  pub entry-parent : readEntry (part l at 280) .parent ≡ word l at
+  unfolding readEntry
+  entry-parent = rw (num-part 8 l at 280 0 (omega arith), add-zero)
+
+  pub entry-node : readEntry (part l at 280) .node ≡ word l (at + 8)
+  unfolding readEntry
+  entry-node = num-part 8 l at 280 8 (omega arith)
+
+  pub entry-index : readEntry (part l at 280) .index ≡ num 4 l (at + 16)
+  unfolding readEntry
+  entry-index = num-part 4 l at 280 16 (omega arith)
+
+  pub entry-name : num 4 l (at + 20) ≤ 256 → readEntry (part l at 280) .name ≡ part l (at + 24) (num 4 l (at + 20))
+  unfolding readEntry
+  entry-name h = rw (num-part 4 l at 280 20 (omega arith)) (part-part l at 280 24 (num 4 l (at + 20)) (omega arith))
+
+  pub chunk-fields : readChunk (part l at 24) ≡ record { node = word l at; index = word l (at + 8); pointer = word l (at + 16) }
+  unfolding readChunk
+  chunk-fields = rw (num-part 8 l at 24 0 (omega arith), num-part 8 l at 24 8 (omega arith), num-part 8 l at 24 16 (omega arith), add-zero)
+
+  pub node-read : {node byte flag most links size : ℕ} {k : Kind} {kind : FileType} {limit : Limit}
+      → byte ≡ num 1 l (at + 8) → flag ≡ num 1 l (at + 9) → k ≡ kindOf byte → kind ≡ kindOr k → most ≡ word l (at + 32) → limit ≡ limitOf flag most
+      → node ≡ word l at → links ≡ word l (at + 16) → size ≡ word l (at + 24)
+      → _≡_ {A = NodeRecord} (record { node = node; kind = kind; limit = limit; links = links; size = size }) (readNode (part l at 40))
+  node-read b f k j w m n a s = rw (node-fields, m, j, k, b, f, w, n, a, s)
+
+  pub chunk-read : {node index pointer : ℕ} → node ≡ word l at → index ≡ word l (at + 8) → pointer ≡ word l (at + 16)
+      → _≡_ {A = ChunkRow} (record { node = node; index = index; pointer = pointer }) (readChunk (part l at 24))
+  chunk-read n i p = rw (chunk-fields, n, i, p)
+
+  -- a loan of the name's bytes
+  pub name-lent : {size : ℕ} → size ≡ num 4 l (at + 20) → num 4 l (at + 20) ≤ 256 → take (at + 24 + size - (at + 24)) (drop (at + 24) l) ≡ readEntry (part l at 280) .name
+  unfolding part
+  name-lent {size} e h =
+      let k : at + 24 + size - (at + 24) ≡ num 4 l (at + 20) = omega arith in
+      rw k (sym (entry-name h))
+
+-- ---- a row written piece by piece
+
+-- one piece, and the others behind it, are one write
+pub and-then : (l : List ℕ) (at : ℕ) (p : List ℕ) (ps : List (List ℕ)) (size next : ℕ) {m r : List ℕ} → length p ≡ size → next ≡ at + size → at + length (joined (p ∷ ps)) ≤ length l
+    → m ≡ over l at p → (next + length (joined ps) ≤ length m → r ≡ over m next (joined ps)) → r ≡ over l at (joined (p ∷ ps))
+unfolding joined
+and-then l at p ps size next s e h w k =
+    let a = length-append p (joined ps) in
+    let n : length (over l at p) ≡ length l = length-over l at p (omega arith) in
+    two l at p (joined ps) next w (k (rw w (omega arith))) (omega arith) (omega arith)
+
+pub last-piece : (l : List ℕ) (at : ℕ) (p : List ℕ) {r : List ℕ} → at + length (joined (p ∷ [])) ≤ length l → (at + length p ≤ length l → r ≡ over l at p) → r ≡ over l at (joined (p ∷ []))
+unfolding joined
+last-piece l at p h k = rw append-nil (k (rw append-nil at h))
+
+-- three words written at once are three pieces
+three-words : (a b c : ℕ) → layWords (a ∷ b ∷ c ∷ []) ≡ joined (spell 8 a ∷ spell 8 b ∷ spell 8 c ∷ [])
+unfolding layAll joined
+three-words a b c = refl
+
+-- a name, and zeros up to the end of its room
+pub padded-written : (l : List ℕ) (at room : ℕ) (name : List ℕ) {m r : List ℕ} → length name ≤ room → at + room ≤ length l → m ≡ over l at name → r ≡ over m (at + length name) (zeros (room - length name)) → r ≡ over l at (padded room name)
+padded-written l at room name h k p q =
+    let z = length-zeros (room - length name) in
+    rw (padded-short room name h) (two l at name (zeros (room - length name)) (at + length name) p q refl (omega arith))
+
+node-size : (row : NodeRecord) → length (layNode row) ≡ 40
+unfolding layNode joined
+node-size row = simp (length-append, length-spell, length-zeros)
+
+entry-size : (e : Entry) → length (layEntry e) ≡ 280
+unfolding layEntry joined
+entry-size e = simp (length-append, length-spell, length-padded)
+
+chunk-size : (row : ChunkRow) → length (layChunk row) ≡ 24
+unfolding layChunk joined
+chunk-size row = simp (length-append, length-spell)
+
+pub node-written : (l : List ℕ) (at : ℕ) (row : NodeRecord) {byte flag most : ℕ} {m n o p r : List ℕ} → byte ≡ kindByte (row .kind) → flag ≡ limitFlag (row .limit) → most ≡ limitWord (row .limit)
+    → m ≡ over l at (spell 8 (row .node)) → n ≡ over m (at + 8) (spell 1 byte) → o ≡ over n (at + 9) (spell 1 flag) → p ≡ over o (at + 10) (zeros 6)
+    → r ≡ over p (at + 16) (layWords (row .links ∷ row .size ∷ most ∷ [])) → at + 40 ≤ length l → r ≡ over l at (layNode row)
+unfolding layNode
+node-written l at row {m = m} {n = n} {o = o} b f w e₁ e₂ e₃ e₄ e₅ h =
+    and-then l at (spell 8 (row .node)) _ 8 (at + 8) (length-spell 8 (row .node)) refl (rw (node-size row) h) e₁
+    (λ h₁. and-then m (at + 8) (spell 1 (kindByte (row .kind))) _ 1 (at + 9) (length-spell 1 (kindByte (row .kind))) (omega arith) h₁ (rw b at e₂)
+    (λ h₂. and-then n (at + 9) (spell 1 (limitFlag (row .limit))) _ 1 (at + 10) (length-spell 1 (limitFlag (row .limit))) (omega arith) h₂ (rw f at e₃)
+    (λ h₃. and-then o (at + 10) (zeros 6) _ 6 (at + 16) (length-zeros 6) (omega arith) h₃ e₄ (λ _. rw (w, three-words (row .links) (row .size) (limitWord (row .limit))) at e₅))))
+
+pub entry-written : (l : List ℕ) (at parent node index : ℕ) (name : List ℕ) {m n o p q r : List ℕ}
+    → m ≡ over l at (spell 8 parent) → n ≡ over m (at + 8) (spell 8 node) → o ≡ over n (at + 16) (spell 4 index) → p ≡ over o (at + 20) (spell 4 (length name))
+    → q ≡ over p (at + 24) name → r ≡ over q (at + 24 + length name) (zeros (256 - length name)) → at + 280 ≤ length l → length name ≤ 256
+    → r ≡ over l at (layEntry (record { parent = parent; node = node; index = index; name = name }))
+unfolding layEntry
+entry-written l at parent node index name {m = m} {n = n} {o = o} {p = p} e₁ e₂ e₃ e₄ e₅ e₆ h k =
+    and-then l at (spell 8 parent) _ 8 (at + 8) (length-spell 8 parent) refl (rw (entry-size (record { parent = parent; node = node; index = index; name = name })) h) e₁
+    (λ h₁. and-then m (at + 8) (spell 8 node) _ 8 (at + 16) (length-spell 8 node) (omega arith) h₁ e₂
+    (λ h₂. and-then n (at + 16) (spell 4 index) _ 4 (at + 20) (length-spell 4 index) (omega arith) h₂ e₃
+    (λ h₃. and-then o (at + 20) (spell 4 (length name)) _ 4 (at + 24) (length-spell 4 (length name)) (omega arith) h₃ e₄
+    (λ h₄. last-piece p (at + 24) (padded 256 name) h₄ (λ h₅. padded-written p (at + 24) 256 name k (rw length-padded at h₅) e₅ e₆)))))
+
+pub chunk-written : (l : List ℕ) (at : ℕ) (row : ChunkRow) {r : List ℕ} → r ≡ over l at (layWords (row .node ∷ row .index ∷ row .pointer ∷ [])) → r ≡ over l at (layChunk row)
+unfolding layChunk
+chunk-written l at row e = rw (three-words (row .node) (row .index) (row .pointer)) at e
+
+-- ---- whether a row stands before a key
+
+module _ (l : List ℕ) (at : ℕ) where
+  pub node-is-under : (n : ℕ) {x : ℕ} → x ≡ word l at → x < n → nodeUnder n (readNode (part l at 40)) ≡ true
+  node-is-under n e h = rw (node-fields l at, ← e) (lt-ltb _ _ h)
+
+  pub node-not-under : (n : ℕ) {x : ℕ} → x ≡ word l at → n ≤ x → nodeUnder n (readNode (part l at 40)) ≡ false
+  node-not-under n e h = rw (node-fields l at, ← e) (le-ltb _ _ h)
+
+  pub chunk-is-under : (n i : ℕ) {x y : ℕ} {r : Bool} → x ≡ word l at → y ≡ word l (at + 8) → r ≡ pairBefore x y n i → r ≡ chunkUnder n i (readChunk (part l at 24))
+  chunk-is-under n i p q e = rw (chunk-fields l at, e, p, q)
+
+-- ---- a search by halving: the rows before low pass the test, and those from high on fail it
+
+module _ {R : Type 0} (f : R → Bool) (read : List ℕ → R) (s : ℕ) (l : List ℕ) (base used : ℕ) where
+  abbrev pub Between : ℕ → ℕ → Type 0
+  Between low high = (low ≤ lead f (table read s l base used)) × (lead f (table read s l base used) ≤ high) × (high ≤ used)
+
+  pub all-between : Between 0 used
+  all-between = omega (arith, lead-le f (table read s l base used), length-table read s l base used)
+
+  pub upper-half : (low high : ℕ) → Between low high → low < high → Falls f (table read s l base used) → f (read (part l (base + s * (low + (high - low) / 2)) s)) ≡ true → Between (low + (high - low) / 2 + 1) high
+  upper-half low high b h g t = omega (arith, seek-up f read s l base used (low + (high - low) / 2) (omega arith) g t)
+
+  pub lower-half : (low high : ℕ) → Between low high → low < high → f (read (part l (base + s * (low + (high - low) / 2)) s)) ≡ false → Between low (low + (high - low) / 2)
+  lower-half low high b h t = omega (arith, seek-down f read s l base used (low + (high - low) / 2) (omega arith) t)
+
+  pub none-between : (low high : ℕ) → Between low high → high ≤ low → (low ≡ lead f (table read s l base used)) × (low ≤ used)
+  none-between low high b h = omega arith
