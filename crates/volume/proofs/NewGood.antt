@@ -1,31 +1,25 @@
 -- A new volume fits into bytes, and what its tables say is good.
 -- Assumes nothing.
-use mathlib.Core.Path.{_≡_, refl, sym, ap, _∙_}
-use mathlib.Core.Bool.{Bool, true, false}
-use mathlib.Core.List.{List, [], _∷_, _++_}
-use Prim.Native.Nat.{ℕ, zero, suc, _+_, _-_, _*_, _%_, _^_, _≤_, _<_}
+use mathlib.Core.Path.{_≡_, refl}
+use mathlib.Core.Bool.{true}
+use Prim.Native.Nat.{ℕ, zero, suc, _+_, _-_, _^_, _<_}
 use native.Mathlib.Nat.{zero-mod}
 use native.Mathlib.Omega.{arith}
-use lib.ListN.{length, take}
+use lib.ListN.{length}
 use Rattle.words.specs.Bytes.{zeros}
-use Rattle.words.specs.Rule.{pick, bit, times, count}
+use Rattle.words.specs.Rule.{pick, bit, times}
 use Rattle.words.specs.Table.{Each, Asc, find}
 use Rattle.words.proofs.Parts.{length-zeros}
 use Rattle.words.proofs.Order.{each-append}
 use Rattle.words.proofs.Counting.{count-none}
-use Rattle.types.specs.Sizes.{mostSize}
-use Rattle.types.specs.Nodes.{limitWord}
-use Rattle.types.specs.declared.FileType.the-variants.{Directory}
-use Rattle.types.specs.declared.NodeRecord.{NodeRecord}
 use Rattle.allocator.specs.Sizes.{acceptedSize}
-use Rattle.allocator.specs.Allocator.{Allocator, wordsOf, free, marker}
-use Rattle.allocator.specs.Pointers.{due}
+use Rattle.allocator.specs.Allocator.{wordsOf, free}
 use Rattle.allocator.proofs.Sized.{accepted-bounds}
 use Rattle.allocator.proofs.Accounts.{due-none}
-use Rattle.volume.specs.Volume.{Volume, atBytes}
-use Rattle.volume.specs.Framed.{Placed, Fits, NodeFits}
+use Rattle.volume.specs.Volume.{atBytes}
+use Rattle.volume.specs.Framed.{Placed, Fits}
 use Rattle.volume.specs.Fresh.{freshAllocator, root, fresh}
-use Rattle.volume.specs.Sound.{node, naming, entriesOf, NodeGood, Good}
+use Rattle.volume.specs.Sound.{node, naming, entriesOf, Good}
 
 each-zero : (P : ℕ → Type 0) → P 0 → (n : ℕ) → Each P (zeros n)
 unfolding Each zeros

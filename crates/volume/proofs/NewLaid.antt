@@ -1,27 +1,25 @@
 -- What the writes of a new volume leave.
 -- Assumes nothing.
 use mathlib.Core.Path.{_≡_, refl, sym, ap, _∙_}
-use mathlib.Core.Bool.{Bool, true, false}
+use mathlib.Core.Bool.{true, false}
 use mathlib.Core.List.{List, [], _∷_, _++_, append-assoc, append-nil}
-use Prim.Native.Nat.{ℕ, _+_, _-_, _*_, _≤_, _<_}
+use Prim.Native.Nat.{ℕ, _+_, _-_, _*_}
 use native.Mathlib.Omega.{arith}
-use native.Mathlib.Nat.{sub-zero}
 use lib.ListN.{length, length-append}
 use Rattle.words.specs.Bytes.{over, spell, zeros}
-use Rattle.words.specs.Rule.{pick}
 use Rattle.words.specs.Table.{layAll, layWords, area, joined}
 use Rattle.words.proofs.Parts.{over-mid, length-zeros, zeros-add}
 use Rattle.words.proofs.Numbers.{length-spell}
 use Rattle.words.proofs.Tables.{layAll-append, length-layAll, words-zero, area-nil, cleared}
 use Rattle.words.proofs.Rules.{pick-true, pick-false}
-use Rattle.types.specs.Outcomes.{Outcome, outcome, refused}
+use Rattle.types.specs.Outcomes.{outcome, refused}
 use Rattle.types.specs.declared.Answer.the-variants.{Done}
 use Rattle.types.specs.declared.Error.the-variants.{InvalidArgument}
 use Rattle.types.specs.declared.NodeRecord.{NodeRecord}
 use Rattle.allocator.specs.Sizes.{acceptedSize}
-use Rattle.allocator.specs.Allocator.{Allocator, layAllocator, wordsOf, marker}
+use Rattle.allocator.specs.Allocator.{layAllocator, wordsOf, marker}
 use Rattle.volume.specs.Rows.{layNode, layEntry, layChunk}
-use Rattle.volume.specs.Volume.{Volume, form, heads, laid, atNodes, atBytes}
+use Rattle.volume.specs.Volume.{form, laid, atNodes, atBytes}
 use Rattle.volume.specs.Framed.{Placed}
 use Rattle.volume.specs.Geometry.{placed}
 use Rattle.volume.specs.Fresh.{freshAllocator, root, fresh, freshLaid, newVolume}
@@ -65,10 +63,10 @@ module _ (n e c s : ℕ) where
       rw (f, ← z, allocator-laid, root-area, area-nil layEntry 280 e, area-nil layChunk 24 c) (simp append-assoc)
 
   -- the three writes
-  pub fresh-written : (l : List ℕ) (at : ℕ) {m k r : List ℕ} → Placed n e c (length l) → at ≡ atNodes c
-      → m ≡ over l 0 (zeros (length l)) → k ≡ over m 0 (layWords firsts) → r ≡ over k at (layNode root) → r ≡ freshLaid n e c s (length l)
+  pub fresh-written : (l : List ℕ) (at : ℕ) {row : NodeRecord} {m k r : List ℕ} → Placed n e c (length l) → at ≡ atNodes c → row ≡ root
+      → m ≡ over l 0 (zeros (length l)) → k ≡ over m 0 (layWords firsts) → r ≡ over k at (layNode row) → r ≡ freshLaid n e c s (length l)
   unfolding freshLaid
-  fresh-written l at p q u v w =
+  fresh-written l at p q t u v w =
       let rest = 40 * (n - 1) + (280 * e + (24 * c + (length l - atBytes n e c))) in
       let cut : zeros (length l) ≡ zeros 80 ++ (zeros (112 + 8 * c) ++ (zeros 40 ++ zeros rest)) =
       rw (zeros-add 40 rest, zeros-add (112 + 8 * c) (40 + rest), zeros-add 80 (112 + 8 * c + (40 + rest))) (ap zeros (omega (arith, p .nodes, p .long))) in
@@ -77,7 +75,7 @@ module _ (n e c s : ℕ) where
       let g : length (layWords firsts ++ zeros (112 + 8 * c)) ≡ at = rw (length-append, length-firsts, length-zeros, q) (omega arith) in
       let b : over ((layWords firsts ++ zeros (112 + 8 * c)) ++ (zeros 40 ++ zeros rest)) at (layNode root) ≡ (layWords firsts ++ zeros (112 + 8 * c)) ++ (layNode root ++ zeros rest) =
       over-mid (layWords firsts ++ zeros (112 + 8 * c)) (zeros 40) (zeros rest) (layNode root) at g (length-zeros 40 ∙ sym length-root) in
-      w ∙ rw (v, u, cleared l, cut, a) (simp append-assoc at b) ∙ sym (fresh-laid (length l - atBytes n e c))
+      w ∙ rw (t, v, u, cleared l, cut, a) (simp append-assoc at b) ∙ sym (fresh-laid (length l - atBytes n e c))
 
 -- ---- the outcome
 

@@ -1,19 +1,16 @@
 -- Laws of the geometry: what the tests mean, and the place that they give.
 -- Assumes nothing.
-use mathlib.Core.Path.{_≡_, refl, sym, ap, _∙_}
+use mathlib.Core.Path.{_≡_, refl}
 use mathlib.Core.Bool.{Bool, true, false}
-use Prim.Native.Nat.{ℕ, _+_, _*_, _≤_, _<_}
+use Prim.Native.Nat.{ℕ, _+_, _≤_}
 use native.Mathlib.Omega.{arith}
-use lib.Dec.{eqb, leb}
-use borrow.Author.Tests.{le-leb, lt-leb}
 use denote.Enum.Declared.{tagOf}
-use Rattle.words.specs.Rule.{pick, both}
-use Rattle.words.proofs.Rules.{Says, says-both, says-leb, says-map, says-true, pick-true, pick-false, stop, go-on}
+use Rattle.words.proofs.Rules.{Says, says-both, says-leb, says-map, says-true, pick-true, pick-false}
 use Rattle.types.specs.Sizes.{mostRows, leastArea}
 use Rattle.volume.specs.declared.Layout.{Layout}
 use Rattle.volume.specs.declared.Place.{Place}
 use Rattle.volume.specs.declared.Place.the-variants.{At, Nowhere}
-use Rattle.volume.specs.Volume.{atNodes, atEntries, atChunks, atBytes}
+use Rattle.volume.specs.Volume.{atBytes}
 use Rattle.volume.specs.Framed.{Placed}
 use Rattle.volume.specs.Geometry.{roomy, layoutOf, placed, placeOf}
 use Rattle.volume.proofs.Place.{the-type}

@@ -1,14 +1,12 @@
 // A new volume.
+use crate::Place;
+use crate::geometry::place_tables;
+use crate::nodes::write_node;
 use types::Answer;
 use types::Error;
 use types::FileType;
 use types::Limit;
 use types::NodeRecord;
-
-use crate::Place;
-use crate::geometry::place_tables;
-use crate::nodes::write_node;
-
 ghost use mathlib.Core.Path.{_≡_};
 ghost use Prim.Native.Nat.{_≤_};
 ghost use lib.ListN.{length};
@@ -19,6 +17,7 @@ ghost use Rattle.volume.specs.Fresh.{root, newVolume, freshLaid};
 
 // The form, and the allocator's marker: `FSA1` and four zero bytes.
 const FORM: u64 = 1;
+
 const MARKER: u64 = 826364742;
 
 // Node 0, a directory that no entry names.

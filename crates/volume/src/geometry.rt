@@ -1,7 +1,6 @@
 // Where the areas start, from the rooms of the tables and the length.
 use crate::Layout;
 use crate::Place;
-
 ghost use mathlib.Core.Path.{_≡_};
 ghost use Prim.Native.Nat.{_≤_};
 ghost use Rattle.words.specs.Bytes.{word};
@@ -10,6 +9,7 @@ ghost use Rattle.volume.specs.Geometry.{roomy, layoutOf, placeOf};
 ghost use Rattle.volume.specs.Framed.{Headed};
 
 const HEADER: u64 = 64;
+
 const ALLOCATOR: u64 = 128;
 
 fn is_roomy(rows: u64) -> bool
@@ -63,5 +63,9 @@ pub fn read_layout(volume: &[u8]) -> Layout
     requires { ⌜ Headed (now volume) ⌝ }
     ensures { λ r. ⌜ r ≡ layoutOf (word (now (volume .entry)) 8) (word (now (volume .entry)) 16) (word (now (volume .entry)) 24) ⌝ }
 {
-    starts(words::get64(volume, 8), words::get64(volume, 16), words::get64(volume, 24))
+    starts(
+        words::get64(volume, 8),
+        words::get64(volume, 16),
+        words::get64(volume, 24),
+    )
 }

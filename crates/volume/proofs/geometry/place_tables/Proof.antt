@@ -1,69 +1,54 @@
 use borrow.Author.Needs.{needs}
 use Rattle.volume.proofs.geometry.place_tables.Statement.{statement}
-use Rattle.volume.proofs.geometry.place_tables.Tie as tie
-use Rattle.volume.proofs.geometry.place_tables.Reads as reads
-use Rattle.volume.proofs.geometry.place_tables.Lts as lts
-use Rattle.volume.proofs.geometry.is_roomy.Reads as is-roomy-reads
-use Rattle.volume.proofs.geometry.starts.Reads as starts-reads
-use mathlib.Core.Path.{_≡_, refl, sym, ap, _∙_}
-use mathlib.Core.Bool.{true, false}
-use Prim.Native.Nat.{_+_, _≤_}
+use mathlib.Core.Path.{sym, ap, _∙_}
+use Prim.Native.Nat.{_+_}
 use native.Mathlib.Omega.{arith}
 use borrow.Author.Tests.{le-leb, lt-leb}
 use Rattle.words.proofs.Rules.{stop, go-on, call-yes, call-no}
 use Rattle.types.specs.Sizes.{leastArea}
 use Rattle.volume.specs.declared.Place.the-variants.{At}
 use Rattle.volume.specs.Volume.{atBytes}
-use Rattle.volume.specs.Geometry.{roomy, placed, placeOf}
+use Rattle.volume.specs.Geometry.{placed}
 use Rattle.volume.proofs.Places.{roomy-fits, nowhere, at-layout}
+use Rattle.volume.proofs.geometry.place_tables.Tie as tie
 
--- src/geometry.rt:44:9
 is-roomy-requires : tie.Need-is-roomy-requires
 is-roomy-requires c κs = search needs
 
--- src/geometry.rt:45:9
 returns : tie.Need-returns
 unfolding placed
 returns c =
     nowhere (c .before .before .args .nodes) (c .before .before .args .entries) (c .before .before .args .chunks) (c .before .before .args .size) (sym (stop _ _ (call-no (c .before .is-roomy .ensures) (c .if1 .taken))))
 
--- src/geometry.rt:47:9
 is-roomy-requires-2 : tie.Need-is-roomy-requires-2
 is-roomy-requires-2 c κs = search needs
 
--- src/geometry.rt:48:9
 returns-2 : tie.Need-returns-2
 unfolding placed
 returns-2 c =
     nowhere (c .before .before .before .before .args .nodes) (c .before .before .before .before .args .entries) (c .before .before .before .before .args .chunks) (c .before .before .before .before .args .size) (sym (go-on _ _ (call-yes (c .before .before .before .is-roomy .ensures) (c .before .before .if1 .left)) (stop _ _ (call-no (c .before .is-roomy2 .ensures) (c .if2 .taken)))))
 
--- src/geometry.rt:50:9
 is-roomy-requires-3 : tie.Need-is-roomy-requires-3
 is-roomy-requires-3 c κs = search needs
 
--- src/geometry.rt:51:9
 returns-3 : tie.Need-returns-3
 unfolding placed
 returns-3 c =
     nowhere (c .before .before .before .before .before .before .args .nodes) (c .before .before .before .before .before .before .args .entries) (c .before .before .before .before .before .before .args .chunks) (c .before .before .before .before .before .before .args .size) (sym (go-on _ _ (call-yes (c .before .before .before .before .before .is-roomy .ensures) (c .before .before .before .before .if1 .left)) (go-on _ _ (call-yes (c .before .before .before .is-roomy2 .ensures) (c .before .before .if2 .left)) (stop _ _ (call-no (c .before .is-roomy3 .ensures) (c .if3 .taken))))))
 
--- src/geometry.rt:53:9
 starts-requires : tie.Need-starts-requires
 starts-requires c κs =
     (roomy-fits (call-yes (c .before .before .before .before .before .is-roomy .ensures) (c .before .before .before .before .if1 .left)) .1, roomy-fits (call-yes (c .before .before .before .is-roomy2 .ensures) (c .before .before .if2 .left)) .1, roomy-fits (call-yes (c .before .is-roomy3 .ensures) (c .if3 .left)) .1)
 
--- src/geometry.rt:55:15
 add-if4 : tie.Need-add-if4
 add-if4 c =
     omega (arith, (ap (λ y. y .bytes) (c .starts .ensures)), roomy-fits (call-yes (c .before .before .before .before .before .before .is-roomy .ensures) (c .before .before .before .before .before .if1 .left)) .1, roomy-fits (call-yes (c .before .before .before .before .is-roomy2 .ensures) (c .before .before .before .if2 .left)) .1, roomy-fits (call-yes (c .before .before .is-roomy3 .ensures) (c .before .if3 .left)) .1)
 
--- src/geometry.rt:56:9
 returns-4 : tie.Need-returns-4
 unfolding placed
 returns-4 c =
     nowhere (c .before .before .before .before .before .before .before .before .args .nodes) (c .before .before .before .before .before .before .before .before .args .entries) (c .before .before .before .before .before .before .before .before .args .chunks) (c .before .before .before .before .before .before .before .before .args .size) (sym (go-on _ _ (call-yes (c .before .before .before .before .before .before .before .is-roomy .ensures) (c .before .before .before .before .before .before .if1 .left)) (go-on _ _ (call-yes (c .before .before .before .before .before .is-roomy2 .ensures) (c .before .before .before .before .if2 .left)) (go-on _ _ (call-yes (c .before .before .before .is-roomy3 .ensures) (c .before .before .if3 .left)) (sym (lt-leb (atBytes (c .before .before .before .before .before .before .before .before .args .nodes) (c .before .before .before .before .before .before .before .before .args .entries) (c .before .before .before .before .before .before .before .before .args .chunks) + leastArea) (c .before .before .before .before .before .before .before .before .args .size) (omega (arith, (ap (λ y. y .bytes) (c .before .starts .ensures))))))))))
 
--- src/geometry.rt:41:1
 returns-5 : tie.Need-returns-5
 unfolding placed
 returns-5 c =
