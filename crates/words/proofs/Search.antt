@@ -7,10 +7,12 @@ use Prim.Native.Nat.{ℕ, zero, suc, _+_, _-_, _*_, _≤_, _<_}
 use native.Mathlib.Nat.{zero-add, sub-self, sub-zero, not-suc-le-zero, le-of-suc-le-suc}
 use native.Mathlib.Numerals.{one-add, sub-one}
 use native.Mathlib.Omega.{arith}
+use mathlib.Core.Option.{Option, none, some}
 use lib.ListN.{length, getD}
 use Rattle.words.specs.Bytes.{part}
-use Rattle.words.specs.Table.{table, lead, leadOf, Each, Falls}
-use Rattle.words.proofs.Order.{each-at}
+use Rattle.words.specs.Rule.{pick}
+use Rattle.words.specs.Table.{Asc, Each, Falls, find, lead, leadOf, table}
+use Rattle.words.proofs.Order.{each-at, each-map}
 use Rattle.words.proofs.Tables.{length-table, table-at}
 
 module _ {R : Type 0} (f : R → Bool) (read : List ℕ → R) (s : ℕ) where
@@ -86,3 +88,42 @@ module _ {R : Type 0} (f : R → Bool) (read : List ℕ → R) (s : ℕ) (l : Li
 
   pub seek-down : f (read (part l (at + s * k) s)) ≡ false → lead f (table read s l at n) ≤ k
   seek-down e = lead-below f (table read s l at n) k (read []) (rw length-table h) (ap f (table-at read s l at n k (read []) h) ∙ e)
+
+-- ---- rows in order
+
+-- in ascending rows, once a row is not under a key, none behind it is
+pub asc-falls : {R : Type 0} (lt : R → R → Type 0) (f : R → Bool) → ((a b : R) → lt a b → f a ≡ false → f b ≡ false) → (rs : List R) → Asc lt rs → Falls f rs
+unfolding Asc Falls
+asc-falls lt f h [] a = tt
+asc-falls lt f h (r ∷ rs) a = ((λ e. each-map (lt r) (λ s. f s ≡ false) (λ s l. h r s l e) rs (a .0)), asc-falls lt f h rs (a .1))
+
+pub find-none : {R : Type 0} (hit : R → Bool) (rs : List R) → Each (λ r. hit r ≡ false) rs → find hit rs ≡ none
+unfolding find Each pick
+find-none hit [] h = refl
+find-none hit (r ∷ rs) h = rw (h .0) (find-none hit rs (h .1))
+
+module _ {R : Type 0} (f hit : R → Bool) (d : R) (not-under : (r : R) → f r ≡ true → hit r ≡ false) where
+  -- the row that a search ends at is the one looked for
+  pub find-found : (rs : List R) → lead f rs < length rs → hit (getD rs (lead f rs) d) ≡ true → find hit rs ≡ some (getD rs (lead f rs) d)
+  unfolding find lead leadOf pick
+  find-found [] h e = absurd (not-suc-le-zero h)
+  find-found (r ∷ rs) h e = go (f r) refl h e (find-found rs)
+    where
+      go : (t : Bool) → f r ≡ t → leadOf t (lead f rs) < suc (length rs) → hit (getD (r ∷ rs) (leadOf t (lead f rs)) d) ≡ true
+          → (lead f rs < length rs → hit (getD rs (lead f rs) d) ≡ true → find hit rs ≡ some (getD rs (lead f rs) d))
+          → find hit (r ∷ rs) ≡ some (getD (r ∷ rs) (leadOf t (lead f rs)) d)
+      go true q k z i = rw (not-under r q) (i (le-of-suc-le-suc k) z)
+      go false q k z i = rw z
+
+  -- it is not, or there is none: the row looked for is not there
+  pub find-missing : (rs : List R) → Falls f rs → Asc (λ a b. f a ≡ false → hit a ≡ false → hit b ≡ false) rs → (lead f rs < length rs → hit (getD rs (lead f rs) d) ≡ false) → find hit rs ≡ none
+  unfolding find lead leadOf pick Asc Falls
+  find-missing [] w o h = refl
+  find-missing (r ∷ rs) w o h = go (f r) refl h (find-missing rs (w .1) (o .1))
+    where
+      go : (t : Bool) → f r ≡ t → (leadOf t (lead f rs) < suc (length rs) → hit (getD (r ∷ rs) (leadOf t (lead f rs)) d) ≡ false)
+          → ((lead f rs < length rs → hit (getD rs (lead f rs) d) ≡ false) → find hit rs ≡ none) → find hit (r ∷ rs) ≡ none
+      go true q z i = rw (not-under r q) (i (λ k. z (omega arith)))
+      go false q z i =
+          let a : hit r ≡ false = z (omega arith) in
+          rw a (find-none hit rs (each-map (λ b. f r ≡ false → hit r ≡ false → hit b ≡ false) (λ b. hit b ≡ false) (λ b k. k q a) rs (o .0)))
