@@ -1,0 +1,6 @@
+pub mod Pieces
+pub mod Areas
+pub mod RowLaws
+pub mod Laid
+pub mod Frames
+pub mod Lens
