@@ -1,4 +1,10 @@
 pub mod Places
+pub mod Pieces
+pub mod Areas
+pub mod RowLaws
+pub mod RowSteps
+pub mod Laid
+pub mod Frames
+pub mod Lens
 pub mod NewLaid
 pub mod NewGood
-pub mod RowSteps
