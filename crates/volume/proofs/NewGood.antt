@@ -18,8 +18,10 @@ use Rattle.allocator.proofs.Sized.{accepted-bounds}
 use Rattle.allocator.proofs.Accounts.{due-none}
 use Rattle.volume.specs.Volume.{atBytes}
 use Rattle.volume.specs.Framed.{Placed, Fits}
-use Rattle.volume.specs.Fresh.{freshAllocator, root, fresh}
-use Rattle.volume.specs.Sound.{node, naming, entriesOf, Good}
+use Rattle.volume.specs.Fresh.{freshAllocator, root, fresh, freshLaid}
+use Rattle.volume.specs.Sound.{node, naming, entriesOf, Good, Sound}
+use Rattle.volume.proofs.Laid.{shown-laid}
+use Rattle.volume.proofs.Frames.{framed-laid}
 
 each-zero : (P : ℕ → Type 0) → P 0 → (n : ℕ) → Each P (zeros n)
 unfolding Each zeros
@@ -75,3 +77,10 @@ good-fresh n e c s area =
       enough = omega arith;
       pointers = λ p. omega (arith, due-none s 0 p (omega arith), count-none p);
     }
+
+-- a new volume is sound
+pub new-sound : (n e c s size : ℕ) → Placed n e c size → acceptedSize s ≡ true → Sound (freshLaid n e c s size)
+unfolding freshLaid
+new-sound n e c s size p h =
+    let f = fits-fresh n e c s size p h in
+    record { framed = framed-laid (fresh n e c s (size - atBytes n e c)) f; good = rw (shown-laid (fresh n e c s (size - atBytes n e c)) f) (good-fresh n e c s (size - atBytes n e c)) }
