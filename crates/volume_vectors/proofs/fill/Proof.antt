@@ -1,0 +1,55 @@
+use Rattle.volume_vectors.proofs.fill.Statement.{statement}
+use borrow.Author.Needs.{needs}
+use mathlib.Core.Path.{_≡_}
+use Prim.Native.Nat.{_-_}
+use lib.ListN.{length}
+use Rattle.volume_vectors.proofs.fill.Tie as tie
+
+abbrev Inv-loop : tie.InvT-loop
+Inv-loop memory₀ i₀ memory i = length memory ≡ length memory₀
+
+abbrev μ-loop : tie.MeasureT-loop
+μ-loop memory₀ i₀ memory i = length memory₀ - i
+
+loop-holds : tie.Need-loop-holds Inv-loop μ-loop
+loop-holds c = search needs
+
+add-memory : tie.Need-add-memory Inv-loop μ-loop
+add-memory c = search needs
+
+cast-memory : tie.Need-cast-memory Inv-loop μ-loop
+cast-memory c = search needs
+
+slice-write-memory : tie.Need-slice-write-memory Inv-loop μ-loop
+slice-write-memory c = search needs
+
+add-i : tie.Need-add-i Inv-loop μ-loop
+add-i c = search needs
+
+loop-less : tie.Need-loop-less Inv-loop μ-loop
+loop-less c = search needs
+
+loop-again : tie.Need-loop-again Inv-loop μ-loop
+loop-again c = search needs
+
+same-length : tie.Need-same-length Inv-loop μ-loop
+same-length c = search needs
+
+returns : tie.Need-returns Inv-loop μ-loop
+returns c = search needs
+
+pub fill-spec : {M : Type 1} → statement M
+fill-spec =
+    tie.close
+    (tie.spec
+    Inv-loop
+    μ-loop
+    loop-holds
+    add-memory
+    cast-memory
+    slice-write-memory
+    add-i
+    loop-less
+    loop-again
+    same-length
+    returns)
