@@ -23,6 +23,7 @@ use Rattle.volume.specs.Volume.{form, laid, atNodes, atBytes}
 use Rattle.volume.specs.Framed.{Placed}
 use Rattle.volume.specs.Geometry.{placed}
 use Rattle.volume.specs.Fresh.{freshAllocator, root, fresh, freshLaid, newVolume}
+use Rattle.volume.proofs.RowLaws.{size-node}
 
 module _ (n e c s : ℕ) where
   -- the header's words, the marker and the chunk size
@@ -31,10 +32,6 @@ module _ (n e c s : ℕ) where
 
   length-firsts : length (layWords firsts) ≡ 80
   length-firsts = length-layAll (spell 8) 8 (length-spell 8) firsts
-
-  length-root : length (layNode root) ≡ 40
-  unfolding layNode joined spell zeros
-  length-root = refl
 
   words-fresh : wordsOf (freshAllocator c s) ≡ (marker ∷ s ∷ []) ++ (zeros 2 ++ (zeros 12 ++ zeros c))
   unfolding wordsOf zeros
@@ -74,7 +71,7 @@ module _ (n e c s : ℕ) where
       over-mid [] (zeros 80) (zeros (112 + 8 * c) ++ (zeros 40 ++ zeros rest)) (layWords firsts) 0 refl (length-zeros 80 ∙ sym length-firsts) in
       let g : length (layWords firsts ++ zeros (112 + 8 * c)) ≡ at = rw (length-append, length-firsts, length-zeros, q) (omega arith) in
       let b : over ((layWords firsts ++ zeros (112 + 8 * c)) ++ (zeros 40 ++ zeros rest)) at (layNode root) ≡ (layWords firsts ++ zeros (112 + 8 * c)) ++ (layNode root ++ zeros rest) =
-      over-mid (layWords firsts ++ zeros (112 + 8 * c)) (zeros 40) (zeros rest) (layNode root) at g (length-zeros 40 ∙ sym length-root) in
+      over-mid (layWords firsts ++ zeros (112 + 8 * c)) (zeros 40) (zeros rest) (layNode root) at g (length-zeros 40 ∙ sym (size-node root)) in
       w ∙ rw (t, v, u, cleared l, cut, a) (simp append-assoc at b) ∙ sym (fresh-laid (length l - atBytes n e c))
 
 -- ---- the outcome

@@ -1,6 +1,6 @@
 -- What the functions of rows do, step by step: a row read field by field, a row written piece by piece, and a search by halving.
 -- Assumes nothing.
-use mathlib.Core.Path.{_≡_, refl, sym}
+use mathlib.Core.Path.{_≡_, refl, sym, ap}
 use mathlib.Core.Bool.{Bool, true, false}
 use mathlib.Core.List.{List, [], _∷_, append-nil}
 use Prim.Native.Nat.{ℕ, _+_, _-_, _*_, _/_, _≤_, _<_}
@@ -10,7 +10,7 @@ use lib.ListN.{length, take, drop, length-append}
 use borrow.Author.Tests.{lt-ltb, le-ltb}
 use Rattle.words.specs.Bytes.{part, over, spell, num, word, zeros, padded}
 use Rattle.words.specs.Table.{table, layAll, layWords, joined, lead, Falls}
-use Rattle.words.proofs.Parts.{length-zeros, length-over, two, part-part}
+use Rattle.words.proofs.Parts.{length-zeros, length-over, two}
 use Rattle.words.proofs.Numbers.{length-spell, num-part}
 use Rattle.words.proofs.Tables.{length-table, length-padded, padded-short}
 use Rattle.words.proofs.Search.{lead-le, seek-up, seek-down}
@@ -20,25 +20,13 @@ use Rattle.types.specs.declared.Kind.{Kind}
 use Rattle.types.specs.declared.Limit.{Limit}
 use Rattle.types.specs.declared.NodeRecord.{NodeRecord}
 use Rattle.volume.specs.declared.ChunkRow.{ChunkRow}
-use Rattle.volume.specs.Rows.{Entry, kindOr, layNode, readNode, layEntry, readEntry, layChunk, readChunk}
+use Rattle.volume.specs.Rows.{kindOr, layNode, readNode, layEntry, readEntry, layChunk, readChunk}
 use Rattle.volume.specs.Search.{pairBefore, nodeUnder, chunkUnder}
+use Rattle.volume.proofs.RowLaws.{size-node, size-entry, node-at, entry-at, chunk-at}
 
 -- ---- a row read field by field: the fields, as they stand in the bytes l around the row
 
 module _ (l : List ℕ) (at : ℕ) where
-  pub node-fields : readNode (part l at 40) ≡ record { node = word l at; kind = kindOr (kindOf (num 1 l (at + 8))); limit = limitOf (num 1 l (at + 9)) (word l (at + 32)); links = word l (at + 16); size = word l (at + 24) }
-  unfolding readNode
-  node-fields =
-      rw (
-        num-part 8 l at 40 0 (omega arith),
-        num-part 1 l at 40 8 (omega arith),
-        num-part 1 l at 40 9 (omega arith),
-        num-part 8 l at 40 16 (omega arith),
-        num-part 8 l at 40 24 (omega arith),
-        num-part 8 l at 40 32 (omega arith),
-        add-zero,
-      )
-
   pub entry-parent : readEntry (part l at 280) .parent ≡ word l at
   unfolding readEntry
   entry-parent = rw (num-part 8 l at 280 0 (omega arith), add-zero)
@@ -52,22 +40,17 @@ module _ (l : List ℕ) (at : ℕ) where
   entry-index = num-part 4 l at 280 16 (omega arith)
 
   pub entry-name : num 4 l (at + 20) ≤ 256 → readEntry (part l at 280) .name ≡ part l (at + 24) (num 4 l (at + 20))
-  unfolding readEntry
-  entry-name h = rw (num-part 4 l at 280 20 (omega arith)) (part-part l at 280 24 (num 4 l (at + 20)) (omega arith))
-
-  pub chunk-fields : readChunk (part l at 24) ≡ record { node = word l at; index = word l (at + 8); pointer = word l (at + 16) }
-  unfolding readChunk
-  chunk-fields = rw (num-part 8 l at 24 0 (omega arith), num-part 8 l at 24 8 (omega arith), num-part 8 l at 24 16 (omega arith), add-zero)
+  entry-name h = ap (λ e. e .name) (entry-at l at h)
 
   pub node-read : {node byte flag most links size : ℕ} {k : Kind} {kind : FileType} {limit : Limit}
       → byte ≡ num 1 l (at + 8) → flag ≡ num 1 l (at + 9) → k ≡ kindOf byte → kind ≡ kindOr k → most ≡ word l (at + 32) → limit ≡ limitOf flag most
       → node ≡ word l at → links ≡ word l (at + 16) → size ≡ word l (at + 24)
       → _≡_ {A = NodeRecord} (record { node = node; kind = kind; limit = limit; links = links; size = size }) (readNode (part l at 40))
-  node-read b f k j w m n a s = rw (node-fields, m, j, k, b, f, w, n, a, s)
+  node-read b f k j w m n a s = rw (node-at l at, m, j, k, b, f, w, n, a, s)
 
   pub chunk-read : {node index pointer : ℕ} → node ≡ word l at → index ≡ word l (at + 8) → pointer ≡ word l (at + 16)
       → _≡_ {A = ChunkRow} (record { node = node; index = index; pointer = pointer }) (readChunk (part l at 24))
-  chunk-read n i p = rw (chunk-fields, n, i, p)
+  chunk-read n i p = rw (chunk-at l at, n, i, p)
 
   -- a loan of the name's bytes
   pub name-lent : {size : ℕ} → size ≡ num 4 l (at + 20) → num 4 l (at + 20) ≤ 256 → take (at + 24 + size - (at + 24)) (drop (at + 24) l) ≡ readEntry (part l at 280) .name
@@ -102,24 +85,12 @@ padded-written l at room name h k p q =
     let z = length-zeros (room - length name) in
     rw (padded-short room name h) (two l at name (zeros (room - length name)) (at + length name) p q refl (omega arith))
 
-node-size : (row : NodeRecord) → length (layNode row) ≡ 40
-unfolding layNode joined
-node-size row = simp (length-append, length-spell, length-zeros)
-
-entry-size : (e : Entry) → length (layEntry e) ≡ 280
-unfolding layEntry joined
-entry-size e = simp (length-append, length-spell, length-padded)
-
-chunk-size : (row : ChunkRow) → length (layChunk row) ≡ 24
-unfolding layChunk joined
-chunk-size row = simp (length-append, length-spell)
-
 pub node-written : (l : List ℕ) (at : ℕ) (row : NodeRecord) {byte flag most : ℕ} {m n o p r : List ℕ} → byte ≡ kindByte (row .kind) → flag ≡ limitFlag (row .limit) → most ≡ limitWord (row .limit)
     → m ≡ over l at (spell 8 (row .node)) → n ≡ over m (at + 8) (spell 1 byte) → o ≡ over n (at + 9) (spell 1 flag) → p ≡ over o (at + 10) (zeros 6)
     → r ≡ over p (at + 16) (layWords (row .links ∷ row .size ∷ most ∷ [])) → at + 40 ≤ length l → r ≡ over l at (layNode row)
 unfolding layNode
 node-written l at row {m = m} {n = n} {o = o} b f w e₁ e₂ e₃ e₄ e₅ h =
-    and-then l at (spell 8 (row .node)) _ 8 (at + 8) (length-spell 8 (row .node)) refl (rw (node-size row) h) e₁
+    and-then l at (spell 8 (row .node)) _ 8 (at + 8) (length-spell 8 (row .node)) refl (rw (size-node row) h) e₁
     (λ h₁. and-then m (at + 8) (spell 1 (kindByte (row .kind))) _ 1 (at + 9) (length-spell 1 (kindByte (row .kind))) (omega arith) h₁ (rw b at e₂)
     (λ h₂. and-then n (at + 9) (spell 1 (limitFlag (row .limit))) _ 1 (at + 10) (length-spell 1 (limitFlag (row .limit))) (omega arith) h₂ (rw f at e₃)
     (λ h₃. and-then o (at + 10) (zeros 6) _ 6 (at + 16) (length-zeros 6) (omega arith) h₃ e₄ (λ _. rw (w, three-words (row .links) (row .size) (limitWord (row .limit))) at e₅))))
@@ -130,7 +101,7 @@ pub entry-written : (l : List ℕ) (at parent node index : ℕ) (name : List ℕ
     → r ≡ over l at (layEntry (record { parent = parent; node = node; index = index; name = name }))
 unfolding layEntry
 entry-written l at parent node index name {m = m} {n = n} {o = o} {p = p} e₁ e₂ e₃ e₄ e₅ e₆ h k =
-    and-then l at (spell 8 parent) _ 8 (at + 8) (length-spell 8 parent) refl (rw (entry-size (record { parent = parent; node = node; index = index; name = name })) h) e₁
+    and-then l at (spell 8 parent) _ 8 (at + 8) (length-spell 8 parent) refl (rw (size-entry (record { parent = parent; node = node; index = index; name = name })) h) e₁
     (λ h₁. and-then m (at + 8) (spell 8 node) _ 8 (at + 16) (length-spell 8 node) (omega arith) h₁ e₂
     (λ h₂. and-then n (at + 16) (spell 4 index) _ 4 (at + 20) (length-spell 4 index) (omega arith) h₂ e₃
     (λ h₃. and-then o (at + 20) (spell 4 (length name)) _ 4 (at + 24) (length-spell 4 (length name)) (omega arith) h₃ e₄
@@ -144,13 +115,13 @@ chunk-written l at row e = rw (three-words (row .node) (row .index) (row .pointe
 
 module _ (l : List ℕ) (at : ℕ) where
   pub node-is-under : (n : ℕ) {x : ℕ} → x ≡ word l at → x < n → nodeUnder n (readNode (part l at 40)) ≡ true
-  node-is-under n e h = rw (node-fields l at, ← e) (lt-ltb _ _ h)
+  node-is-under n e h = rw (node-at l at, ← e) (lt-ltb _ _ h)
 
   pub node-not-under : (n : ℕ) {x : ℕ} → x ≡ word l at → n ≤ x → nodeUnder n (readNode (part l at 40)) ≡ false
-  node-not-under n e h = rw (node-fields l at, ← e) (le-ltb _ _ h)
+  node-not-under n e h = rw (node-at l at, ← e) (le-ltb _ _ h)
 
   pub chunk-is-under : (n i : ℕ) {x y : ℕ} {r : Bool} → x ≡ word l at → y ≡ word l (at + 8) → r ≡ pairBefore x y n i → r ≡ chunkUnder n i (readChunk (part l at 24))
-  chunk-is-under n i p q e = rw (chunk-fields l at, e, p, q)
+  chunk-is-under n i p q e = rw (chunk-at l at, e, p, q)
 
 -- ---- a search by halving: the rows before low pass the test, and those from high on fail it
 
