@@ -4,17 +4,16 @@ use mathlib.Core.Path.{_≡_, refl, sym, ap, _∙_}
 use mathlib.Core.List.{List, []}
 use Prim.Native.Nat.{ℕ, _+_, _-_, _*_, _≤_, _<_}
 use native.Mathlib.Omega.{arith}
-use lib.ListN.{length, getD, length-drop}
+use lib.ListN.{length, length-drop}
 use Rattle.words.specs.Bytes.{part, word}
-use Rattle.words.specs.Table.{table}
 use Rattle.words.proofs.Tables.{length-table, table-at}
 use Rattle.types.specs.declared.NodeRecord.{NodeRecord}
 use Rattle.volume.specs.declared.Layout.{Layout}
 use Rattle.volume.specs.declared.ChunkRow.{ChunkRow}
 use Rattle.volume.specs.Rows.{readNode, readEntry, readChunk}
-use Rattle.volume.specs.Volume.{Volume, shown, atNodes, atEntries, atChunks, atBytes}
-use Rattle.volume.specs.Framed.{Placed, Fits, Formed}
-use Rattle.tables.specs.Tables.{Ready, layoutAt, nodeAt, chunkAt}
+use Rattle.volume.specs.Volume.{shown, atNodes, atEntries, atChunks, atBytes}
+use Rattle.volume.proofs.RowLaws.{node-at}
+use Rattle.tables.specs.Tables.{Ready, nodeAt, chunkAt}
 
 -- what omega needs
 pub record Rooms (l : List ℕ) (y : Layout) : Type 0 where
@@ -76,3 +75,7 @@ module _ (l : List ℕ) where
     chunk-there i h e q =
         q ∙ ap (λ (k : ℕ). readChunk (part l k 24)) (e ∙ ap (λ (k : ℕ). k + 24 * i) (rooms .chunks))
         ∙ sym (table-at readChunk 24 l (atChunks (word l 8) (word l 16) (word l 24)) (word l 48) i (readChunk []) (omega (arith, count-chunks)))
+
+    -- a node's number, read by itself
+    pub node-key : (i : ℕ) {x at : ℕ} → i < length (shown l .nodes) → at ≡ y .nodes + 40 * i → x ≡ word l at → x ≡ nodeAt (shown l .nodes) i .node
+    node-key i {x} {at} h e q = q ∙ ap (λ a. a .node) (sym (node-at l at) ∙ node-there i h e refl)
