@@ -1,0 +1,3 @@
+pub mod Rooms
+pub mod Finds
+pub mod Changes

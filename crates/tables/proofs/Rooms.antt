@@ -1,0 +1,81 @@
+-- Numbers of a volume that is laid out: where its tables stand, how many rows they have, and that all of it fits.
+-- Assumes nothing.
+use mathlib.Core.Path.{_≡_, refl, sym, ap, _∙_}
+use mathlib.Core.List.{List, []}
+use Prim.Native.Nat.{ℕ, _+_, _-_, _*_, _≤_, _<_}
+use native.Mathlib.Omega.{arith}
+use lib.ListN.{length, length-drop}
+use Rattle.words.specs.Bytes.{part, word}
+use Rattle.words.proofs.Tables.{length-table, table-at}
+use Rattle.types.specs.declared.NodeRecord.{NodeRecord}
+use Rattle.volume.specs.declared.Layout.{Layout}
+use Rattle.volume.specs.declared.ChunkRow.{ChunkRow}
+use Rattle.volume.specs.Rows.{readNode, readEntry, readChunk}
+use Rattle.volume.specs.Volume.{shown, atNodes, atEntries, atChunks, atBytes}
+use Rattle.volume.proofs.RowLaws.{node-at}
+use Rattle.tables.specs.Tables.{Ready, nodeAt, chunkAt}
+
+-- what omega needs
+pub record Rooms (l : List ℕ) (y : Layout) : Type 0 where
+  pub nodes : y .nodes ≡ 192 + 8 * word l 24
+  pub entries : y .entries ≡ 192 + 8 * word l 24 + 40 * word l 8
+  pub chunks : y .chunks ≡ 192 + 8 * word l 24 + 40 * word l 8 + 280 * word l 16
+  pub bytes : y .bytes ≡ 192 + 8 * word l 24 + 40 * word l 8 + 280 * word l 16 + 24 * word l 24
+  pub long : 192 + 8 * word l 24 + 40 * word l 8 + 280 * word l 16 + 24 * word l 24 + 65536 ≤ length l
+  pub nodeRoom : word l 8 ≤ 4096
+  pub entryRoom : word l 16 ≤ 4096
+  pub chunkRoom : word l 24 ≤ 4096
+  pub nodesUsed : word l 32 ≤ word l 8
+  pub entriesUsed : word l 40 ≤ word l 16
+  pub chunksUsed : word l 48 ≤ word l 24
+
+module _ (l : List ℕ) where
+  pub count-nodes : length (shown l .nodes) ≡ word l 32
+  unfolding shown
+  count-nodes = length-table readNode 40 l (atNodes (word l 24)) (word l 32)
+
+  pub count-entries : length (shown l .entries) ≡ word l 40
+  unfolding shown
+  count-entries = length-table readEntry 280 l (atEntries (word l 8) (word l 24)) (word l 40)
+
+  pub count-chunks : length (shown l .chunks) ≡ word l 48
+  unfolding shown
+  count-chunks = length-table readChunk 24 l (atChunks (word l 8) (word l 16) (word l 24)) (word l 48)
+
+  module _ (y : Layout) (r : Ready l y) where
+    pub rooms : Rooms l y
+    unfolding shown
+    rooms =
+        let f = r .formed .fits in
+        let d : length (shown l .bytes) ≡ length l - atBytes (word l 8) (word l 16) (word l 24) = length-drop (atBytes (word l 8) (word l 16) (word l 24)) l in
+        record {
+          nodes = ap (λ z. z .nodes) (r .layout);
+          entries = ap (λ z. z .entries) (r .layout);
+          chunks = ap (λ z. z .chunks) (r .layout);
+          bytes = ap (λ z. z .bytes) (r .layout);
+          long = omega (arith, f .placed .long);
+          nodeRoom = f .placed .nodes .1;
+          entryRoom = f .placed .entries .1;
+          chunkRoom = f .placed .chunks .1;
+          nodesUsed = omega (arith, f .nodes, count-nodes);
+          entriesUsed = omega (arith, f .entries, count-entries);
+          chunksUsed = omega (arith, f .chunks, count-chunks);
+        }
+
+    -- ---- rows by their place
+
+    pub node-there : (i : ℕ) {a : NodeRecord} {at : ℕ} → i < length (shown l .nodes) → at ≡ y .nodes + 40 * i → a ≡ readNode (part l at 40) → a ≡ nodeAt (shown l .nodes) i
+    unfolding shown
+    node-there i h e q =
+        q ∙ ap (λ (k : ℕ). readNode (part l k 40)) (e ∙ ap (λ (k : ℕ). k + 40 * i) (rooms .nodes))
+        ∙ sym (table-at readNode 40 l (atNodes (word l 24)) (word l 32) i (readNode []) (omega (arith, count-nodes)))
+
+    pub chunk-there : (i : ℕ) {a : ChunkRow} {at : ℕ} → i < length (shown l .chunks) → at ≡ y .chunks + 24 * i → a ≡ readChunk (part l at 24) → a ≡ chunkAt (shown l .chunks) i
+    unfolding shown
+    chunk-there i h e q =
+        q ∙ ap (λ (k : ℕ). readChunk (part l k 24)) (e ∙ ap (λ (k : ℕ). k + 24 * i) (rooms .chunks))
+        ∙ sym (table-at readChunk 24 l (atChunks (word l 8) (word l 16) (word l 24)) (word l 48) i (readChunk []) (omega (arith, count-chunks)))
+
+    -- a node's number, read by itself
+    pub node-key : (i : ℕ) {x at : ℕ} → i < length (shown l .nodes) → at ≡ y .nodes + 40 * i → x ≡ word l at → x ≡ nodeAt (shown l .nodes) i .node
+    node-key i {x} {at} h e q = q ∙ ap (λ a. a .node) (sym (node-at l at) ∙ node-there i h e refl)
