@@ -3,16 +3,18 @@
 use mathlib.Core.Path.{_≡_, refl, sym, ap, _∙_}
 use mathlib.Core.Bool.{Bool, true, false, true≢false}
 use mathlib.Core.Logic.{_⊎_, inl, inr}
-use mathlib.Core.List.{List}
+use mathlib.Core.List.{List, []}
+use mathlib.Core.Option.{none, some}
 use Prim.Native.Nat.{ℕ, _≤_, _<_}
 use native.Mathlib.Omega.{arith}
 use lib.Dec.{eqb, ltb}
 use lib.ListN.{length}
-use borrow.Author.Tests.{eq-eqb, ne-eqb, lt-ltb, le-ltb, ltb-false}
+use borrow.Author.Tests.{eq-eqb, ne-eqb, lt-ltb, le-ltb, ltb-true, ltb-false}
 use Rattle.words.specs.Rule.{pick, both}
-use Rattle.words.specs.Table.{table, lead, Falls, Asc}
+use Rattle.words.specs.Table.{table, lead, Falls, Asc, find}
 use Rattle.words.proofs.Rules.{Says, holds, fails, true-says, says-eqb, says-ltb, pick-true, pick-false}
-use Rattle.words.proofs.Search.{asc-falls}
+use Rattle.words.proofs.Order.{asc-map}
+use Rattle.words.proofs.Search.{asc-falls, find-found, find-missing}
 use Rattle.types.specs.declared.NodeRecord.{NodeRecord}
 use Rattle.volume.specs.declared.Layout.{Layout}
 use Rattle.volume.specs.declared.ChunkRow.{ChunkRow}
@@ -125,3 +127,41 @@ module _ (n k : ℕ) (cs : List ChunkRow) {i : ℕ} (e : i ≡ lead (chunkUnder 
     pub chunk-here : c .node ≡ n → c .index ≡ k → At i ≡ foundChunk n k cs
     unfolding foundChunk both
     chunk-here w z = pick-true _ _ _ _ (rw (← e) (lt-ltb i (length cs) h)) (pick-true _ _ _ _ (rw (← e, ← q, eq-eqb _ _ w, eq-eqb _ _ z)) (ap At e))
+
+-- ---- what is found is the row looked for, and where nothing is found there is none
+
+module _ (n : ℕ) where
+  not-under : (r : NodeRecord) → nodeUnder n r ≡ true → eqb (r .node) n ≡ false
+  not-under r e = ne-eqb (r .node) n (λ q. omega (arith, ltb-true (r .node) n e))
+
+  passes : (a b : NodeRecord) → nodeBefore a b → nodeUnder n a ≡ false → eqb (a .node) n ≡ false → eqb (b .node) n ≡ false
+  passes a b h e q = ne-eqb (b .node) n (λ z. omega (arith, ltb-false (a .node) n e))
+
+  pub node-found : (rs : List NodeRecord) (i : ℕ) → At i ≡ foundNode n rs → (i < length rs) × (find (λ r. eqb (r .node) n) rs ≡ some (nodeAt rs i))
+  unfolding foundNode pick
+  node-found rs i e = go (ltb k (length rs)) (says-ltb k (length rs)) (eqb (nodeAt rs k .node) n) refl e
+    where
+      k : ℕ
+      k = lead (nodeUnder n) rs
+
+      go : (a : Bool) → Says (k < length rs) a → (b : Bool) → eqb (nodeAt rs k .node) n ≡ b → At i ≡ pick a (pick b (At k) Nothing) Nothing
+          → (i < length rs) × (find (λ r. eqb (r .node) n) rs ≡ some (nodeAt rs i))
+      go true (holds h) true q z =
+          let s : i ≡ k = cc in
+          rw s (h, find-found (nodeUnder n) (λ r. eqb (r .node) n) (readNode []) not-under rs h q)
+      go true (holds h) false q z = let x : _≡_ {A = ℕ} 0 1 = cc in absurd (omega arith)
+      go false (fails h) b q z = let x : _≡_ {A = ℕ} 0 1 = cc in absurd (omega arith)
+
+  pub node-absent : (rs : List NodeRecord) → Asc nodeBefore rs → Nothing ≡ foundNode n rs → find (λ r. eqb (r .node) n) rs ≡ none
+  unfolding foundNode pick
+  node-absent rs a e =
+      find-missing (nodeUnder n) (λ r. eqb (r .node) n) (readNode []) not-under rs (asc-falls nodeBefore (nodeUnder n) (node-falls n) rs a)
+      (asc-map nodeBefore (λ x y. nodeUnder n x ≡ false → eqb (x .node) n ≡ false → eqb (y .node) n ≡ false) passes rs a) (go (ltb k (length rs)) (says-ltb k (length rs)) (eqb (nodeAt rs k .node) n) refl e)
+    where
+      k : ℕ
+      k = lead (nodeUnder n) rs
+
+      go : (a : Bool) → Says (k < length rs) a → (b : Bool) → eqb (nodeAt rs k .node) n ≡ b → Nothing ≡ pick a (pick b (At k) Nothing) Nothing → k < length rs → eqb (nodeAt rs k .node) n ≡ false
+      go true s true q z h = let x : _≡_ {A = ℕ} 0 1 = cc in absurd (omega arith)
+      go true s false q z h = q
+      go false (fails s) b q z h = absurd (s h)

@@ -68,6 +68,11 @@ module _ {R : Type 0} (lt : R → R → Type 0) (trans : (a b c : R) → lt a b 
     insert-asc [] a n = (tt, tt)
     insert-asc (r ∷ rs) a n = insert-asc-of (f r) r rs refl a (n .0) (insert-asc rs (a .1) (n .1))
 
+pub asc-map : {R : Type 0} (lt ls : R → R → Type 0) → ((a b : R) → lt a b → ls a b) → (rs : List R) → Asc lt rs → Asc ls rs
+unfolding Asc
+asc-map lt ls f [] a = tt
+asc-map lt ls f (r ∷ rs) a = (each-map (lt r) (ls r) (f r) rs (a .0), asc-map lt ls f rs (a .1))
+
 -- a store behind the seam of two lists
 pub set-append-add : {R : Type 0} (xs ys : List R) (n : ℕ) (a : R) → set (xs ++ ys) (length xs + n) a ≡ xs ++ set ys n a
 set-append-add [] ys n a = rw zero-add
