@@ -12,6 +12,9 @@ ghost use Rattle.allocator.specs.Sizes.{acceptedSize};
 ghost use Rattle.allocator.specs.Allocator.{readAllocator, layAllocator, allocate, release, setChunkSize};
 ghost use Rattle.allocator.specs.Words.{Formed, Takable, lastFree, withoutLast};
 
+// Word 0: `FSA1` and four zero bytes.
+pub const MARKER: u64 = 826364742;
+
 // Where each word starts, in bytes.
 const CHUNK_SIZE: usize = 8;
 

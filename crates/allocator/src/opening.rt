@@ -1,6 +1,6 @@
 // Allocator open: refuses words that no allocator left, and renews an old marker and an unset size.
-use crate::AVAILABLE_CHUNKS_LEN;
 use crate::CHUNK_SIZE;
+use crate::MARKER;
 use crate::MAX_PTR;
 use crate::accepted;
 use crate::get_len;
@@ -17,21 +17,19 @@ ghost use Rattle.words.specs.Rule.{upto, apart};
 ghost use Rattle.types.specs.Outcomes.{outcome};
 ghost use Rattle.allocator.specs.Opening.{marked, sizeMeant, sized, freeWord, lined, freeLined, freeApart, pointersGood, openable, remarked, resized, opened};
 
-// The first four bytes: `FSA1`, and the older `ALO1`.
-const NEW_MARK: u64 = 826364742;
-
+// The first four bytes of older words: `ALO1`.
 const OLD_MARK: u64 = 827280449;
 
 const DEFAULT_CHUNK_SIZE: u64 = 16384;
 
-const LEAST: usize = 128;
+const LEAST: usize = types::WORD * types::ALLOCATOR_WORDS;
 
 fn is_marked(words: &[u8]) -> bool
     requires { ⌜ 128 ≤ length (now words) ⌝ }
     ensures { λ r. ⌜ r ≡ marked (now (words .entry)) ⌝ }
 {
     let mark = words::get32(words, 0);
-    if mark == NEW_MARK {
+    if mark == MARKER {
         return true;
     }
     mark == OLD_MARK
@@ -152,7 +150,7 @@ fn renew_mark(words: &mut [u8])
     ensures { λ _. ⌜ now (words .exit) ≡ remarked (now (words .entry)) ⌝ }
 {
     if words::get32(words, 0) == OLD_MARK {
-        words::put64(words, 0, NEW_MARK);
+        words::put64(words, 0, MARKER);
     }
 }
 

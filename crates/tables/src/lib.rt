@@ -14,15 +14,6 @@ ghost use Rattle.volume.specs.Search.{entryUnder};
 ghost use Rattle.volume.specs.Sound.{nodeBefore, entryBefore, chunkBefore};
 ghost use Rattle.tables.specs.Tables.{Ready, nodeAt, chunkAt, foundNode, foundChunk};
 
-// Where the header keeps the rows used and the next node.
-const NODES_USED: usize = 32;
-
-const ENTRIES_USED: usize = 40;
-
-const CHUNKS_USED: usize = 48;
-
-const NEXT_NODE: usize = 56;
-
 pub enum Found {
     At(usize),
     Nothing,
@@ -32,21 +23,21 @@ pub fn nodes_used(volume: &[u8], layout: Layout) -> usize
     requires { ⌜ Ready (now volume) layout ⌝ }
     ensures { λ r. ⌜ (r ≡ length (shown (now (volume .entry)) .nodes)) × (r ≤ 4096) ⌝ }
 {
-    words::get64(volume, NODES_USED) as usize
+    words::get64(volume, volume::NODES_USED) as usize
 }
 
 pub fn entries_used(volume: &[u8], layout: Layout) -> usize
     requires { ⌜ Ready (now volume) layout ⌝ }
     ensures { λ r. ⌜ (r ≡ length (shown (now (volume .entry)) .entries)) × (r ≤ 4096) ⌝ }
 {
-    words::get64(volume, ENTRIES_USED) as usize
+    words::get64(volume, volume::ENTRIES_USED) as usize
 }
 
 pub fn chunks_used(volume: &[u8], layout: Layout) -> usize
     requires { ⌜ Ready (now volume) layout ⌝ }
     ensures { λ r. ⌜ (r ≡ length (shown (now (volume .entry)) .chunks)) × (r ≤ 4096) ⌝ }
 {
-    words::get64(volume, CHUNKS_USED) as usize
+    words::get64(volume, volume::CHUNKS_USED) as usize
 }
 
 pub fn node_row(volume: &[u8], layout: Layout, i: usize) -> NodeRecord
@@ -117,7 +108,7 @@ pub fn set_next_node(volume: &mut [u8], layout: Layout, next: u64)
     requires { ⌜ Ready (now volume) layout ⌝ }
     ensures { λ _. ⌜ now (volume .exit) ≡ laid (withNext next (shown (now (volume .entry)))) ⌝ }
 {
-    words::put64(volume, NEXT_NODE, next);
+    words::put64(volume, volume::NEXT_NODE, next);
 }
 
 pub fn change_node(volume: &mut [u8], layout: Layout, i: usize, row: NodeRecord)
@@ -136,7 +127,7 @@ pub fn append_node(volume: &mut [u8], layout: Layout, row: NodeRecord)
     let used = nodes_used(volume, layout);
     let base = layout.nodes;
     volume::write_node(volume, base + types::NODE_ROW * used, row);
-    words::put64(volume, NODES_USED, used as u64 + 1);
+    words::put64(volume, volume::NODES_USED, used as u64 + 1);
 }
 
 pub fn remove_node(volume: &mut [u8], layout: Layout, i: usize)
@@ -149,7 +140,7 @@ pub fn remove_node(volume: &mut [u8], layout: Layout, i: usize)
     let end = base + types::NODE_ROW * used;
     words::shift_down(volume, next, end, types::NODE_ROW);
     words::clear(volume, end - types::NODE_ROW, types::NODE_ROW);
-    words::put64(volume, NODES_USED, used as u64 - 1);
+    words::put64(volume, volume::NODES_USED, used as u64 - 1);
 }
 
 // Puts an entry before entry row p.
@@ -170,7 +161,7 @@ pub fn insert_entry(
     let at = base + types::ENTRY_ROW * p;
     words::shift_up(volume, at, base + types::ENTRY_ROW * used, types::ENTRY_ROW);
     volume::write_entry(volume, at, parent, node, index, name);
-    words::put64(volume, ENTRIES_USED, used as u64 + 1);
+    words::put64(volume, volume::ENTRIES_USED, used as u64 + 1);
 }
 
 pub fn remove_entry(volume: &mut [u8], layout: Layout, p: usize)
@@ -183,7 +174,7 @@ pub fn remove_entry(volume: &mut [u8], layout: Layout, p: usize)
     let end = base + types::ENTRY_ROW * used;
     words::shift_down(volume, next, end, types::ENTRY_ROW);
     words::clear(volume, end - types::ENTRY_ROW, types::ENTRY_ROW);
-    words::put64(volume, ENTRIES_USED, used as u64 - 1);
+    words::put64(volume, volume::ENTRIES_USED, used as u64 - 1);
 }
 
 // Puts a row before chunk row p.
@@ -196,7 +187,7 @@ pub fn insert_chunk(volume: &mut [u8], layout: Layout, p: usize, row: ChunkRow)
     let at = base + types::CHUNK_ROW * p;
     words::shift_up(volume, at, base + types::CHUNK_ROW * used, types::CHUNK_ROW);
     volume::write_chunk(volume, at, row);
-    words::put64(volume, CHUNKS_USED, used as u64 + 1);
+    words::put64(volume, volume::CHUNKS_USED, used as u64 + 1);
 }
 
 // Takes n chunk rows out, from row p on, in one move.
@@ -210,5 +201,5 @@ pub fn remove_chunks(volume: &mut [u8], layout: Layout, p: usize, n: usize)
     let end = base + types::CHUNK_ROW * used;
     words::shift_down(volume, base + types::CHUNK_ROW * (p + n), end, gone);
     words::clear(volume, end - gone, gone);
-    words::put64(volume, CHUNKS_USED, (used - n) as u64);
+    words::put64(volume, volume::CHUNKS_USED, (used - n) as u64);
 }

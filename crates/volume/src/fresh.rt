@@ -1,4 +1,5 @@
 // A new volume.
+use crate::FORM;
 use crate::Place;
 use crate::geometry::place_tables;
 use crate::nodes::write_node;
@@ -14,11 +15,6 @@ ghost use Rattle.types.specs.Outcomes.{outcome};
 ghost use Rattle.volume.specs.Volume.{atNodes};
 ghost use Rattle.volume.specs.Framed.{Placed};
 ghost use Rattle.volume.specs.Fresh.{root, newVolume, freshLaid};
-
-// The form, and the allocator's marker: `FSA1` and four zero bytes.
-const FORM: u64 = 1;
-
-const MARKER: u64 = 826364742;
 
 // Node 0, a directory that no entry names.
 fn root() -> NodeRecord
@@ -40,7 +36,18 @@ fn lay(volume: &mut [u8], nodes: u64, entries: u64, chunks: u64, size: u64, at: 
 {
     let whole = volume.len();
     words::clear(volume, 0, whole);
-    let heads = [FORM, nodes, entries, chunks, 1, 0, 0, 1, MARKER, size];
+    let heads = [
+        FORM,
+        nodes,
+        entries,
+        chunks,
+        1,
+        0,
+        0,
+        1,
+        allocator::MARKER,
+        size,
+    ];
     words::put_words(volume, 0, &heads);
     write_node(volume, at, root());
 }

@@ -1,5 +1,8 @@
 // Where the areas start, from the rooms of the tables and the length.
+use crate::CHUNK_ROOM;
+use crate::ENTRY_ROOM;
 use crate::Layout;
+use crate::NODE_ROOM;
 use crate::Place;
 ghost use mathlib.Core.Path.{_≡_};
 ghost use Prim.Native.Nat.{_≤_};
@@ -8,9 +11,8 @@ ghost use Rattle.types.specs.Sizes.{mostRows};
 ghost use Rattle.volume.specs.Geometry.{roomy, layoutOf, placeOf};
 ghost use Rattle.volume.specs.Framed.{Headed};
 
-const HEADER: u64 = 64;
-
-const ALLOCATOR: u64 = 128;
+// The node rows stand behind the header's words, the allocator's first words, and a word for each chunk.
+const FIRST_TABLE: usize = types::WORD * (types::HEADER_WORDS + types::ALLOCATOR_WORDS);
 
 fn is_roomy(rows: u64) -> bool
     ensures { λ r. ⌜ r ≡ roomy rows ⌝ }
@@ -26,7 +28,7 @@ fn starts(nodes: u64, entries: u64, chunks: u64) -> Layout
     requires { ⌜ (nodes ≤ mostRows) × (entries ≤ mostRows) × (chunks ≤ mostRows) ⌝ }
     ensures { λ r. ⌜ r ≡ layoutOf nodes entries chunks ⌝ }
 {
-    let first = 192 + types::WORD * (chunks as usize);
+    let first = FIRST_TABLE + types::WORD * (chunks as usize);
     let second = first + types::NODE_ROW * (nodes as usize);
     let third = second + types::ENTRY_ROW * (entries as usize);
     Layout {
@@ -64,8 +66,8 @@ pub fn read_layout(volume: &[u8]) -> Layout
     ensures { λ r. ⌜ r ≡ layoutOf (word (now (volume .entry)) 8) (word (now (volume .entry)) 16) (word (now (volume .entry)) 24) ⌝ }
 {
     starts(
-        words::get64(volume, 8),
-        words::get64(volume, 16),
-        words::get64(volume, 24),
+        words::get64(volume, NODE_ROOM),
+        words::get64(volume, ENTRY_ROOM),
+        words::get64(volume, CHUNK_ROOM),
     )
 }

@@ -22,6 +22,24 @@ pub use nodes::read_node;
 pub use nodes::seek_node;
 pub use nodes::write_node;
 
+// The form that the bytes have.
+pub const FORM: u64 = 1;
+
+// Where the header's words stand: the rooms of the tables, the rows used, the next node.
+pub const NODE_ROOM: usize = 8;
+
+pub const ENTRY_ROOM: usize = 16;
+
+pub const CHUNK_ROOM: usize = 24;
+
+pub const NODES_USED: usize = 32;
+
+pub const ENTRIES_USED: usize = 40;
+
+pub const CHUNKS_USED: usize = 48;
+
+pub const NEXT_NODE: usize = 56;
+
 pub struct ChunkRow {
     pub node: u64,
     pub index: u64,
