@@ -6,5 +6,6 @@ pub mod RowSteps
 pub mod Laid
 pub mod Frames
 pub mod Lens
+pub mod Rounding
 pub mod NewLaid
 pub mod NewGood
