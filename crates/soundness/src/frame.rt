@@ -1,7 +1,5 @@
 // The form of the bytes. Nothing in them is trusted: no number read is used before it is tested.
-use volume::Layout;
 use volume::Place;
-
 ghost use mathlib.Core.Path.{_≡_};
 ghost use mathlib.Core.Bool.{true};
 ghost use Prim.Native.Nat.{_+_, _-_, _*_, _≤_};
@@ -12,30 +10,77 @@ ghost use Rattle.volume.specs.Framed.{Headed};
 ghost use Rattle.volume.specs.Volume.{form};
 ghost use Rattle.soundness.specs.Frame.{headed, marked, limitFormed, nodeFormed, entryFormed, rowsFormed, formed, framed};
 
+const HEADER: usize = 64;
+
+const FORM: u64 = 1;
+
+const NODE_ROOM: usize = 8;
+
+const ENTRY_ROOM: usize = 16;
+
+const CHUNK_ROOM: usize = 24;
+
+const NODES_USED: usize = 32;
+
+const ENTRIES_USED: usize = 40;
+
+const CHUNKS_USED: usize = 48;
+
+// The allocator's words, from the start of the volume.
+const MARK: usize = 64;
+
+const CHUNK_SIZE: usize = 72;
+
+const FREE_COUNT: usize = 80;
+
+const MARKER: u64 = 826364742;
+
+// Within a node's row.
+const KIND: usize = 8;
+
+const FLAG: usize = 9;
+
+const SPARE: usize = 10;
+
+const SPARE_BYTES: usize = 6;
+
+const LIMIT: usize = 32;
+
+const MOST_KIND: u64 = 2;
+
+const NO_LIMIT: u64 = 0;
+
+const LIMITED: u64 = 1;
+
+// Within an entry's row.
+const NAME_SIZE: usize = 20;
+
+const NAME: usize = 24;
+
 // The form, the geometry and the length, used counts that fit.
 fn is_headed(volume: &[u8]) -> bool
     ensures { λ r. ⌜ r ≡ headed (now (volume .entry)) ⌝ }
 {
-    if volume.len() < 64 {
+    if volume.len() < HEADER {
         return false;
     }
-    if words::get64(volume, 0) != 1 {
+    if words::get64(volume, 0) != FORM {
         return false;
     }
-    let nodes = words::get64(volume, 8);
-    let entries = words::get64(volume, 16);
-    let chunks = words::get64(volume, 24);
+    let nodes = words::get64(volume, NODE_ROOM);
+    let entries = words::get64(volume, ENTRY_ROOM);
+    let chunks = words::get64(volume, CHUNK_ROOM);
     let place = volume::place_tables(nodes, entries, chunks, volume.len() as u64);
     let Place::At(_) = place else {
         return false;
     };
-    if nodes < words::get64(volume, 32) {
+    if nodes < words::get64(volume, NODES_USED) {
         return false;
     }
-    if entries < words::get64(volume, 40) {
+    if entries < words::get64(volume, ENTRIES_USED) {
         return false;
     }
-    words::get64(volume, 48) <= chunks
+    words::get64(volume, CHUNKS_USED) <= chunks
 }
 
 // The allocator's marker, chunk size and free count; its words are a part of the volume that starts in its middle.
@@ -43,22 +88,22 @@ fn is_marked(volume: &[u8]) -> bool
     requires { ⌜ Headed (now volume) ⌝ }
     ensures { λ r. ⌜ r ≡ marked (now (volume .entry)) ⌝ }
 {
-    if words::get64(volume, 64) != 826364742 {
+    if words::get64(volume, MARK) != MARKER {
         return false;
     }
-    if !allocator::accepted(words::get64(volume, 72)) {
+    if !allocator::accepted(words::get64(volume, CHUNK_SIZE)) {
         return false;
     }
-    words::get64(volume, 80) <= words::get64(volume, 24)
+    words::get64(volume, FREE_COUNT) <= words::get64(volume, CHUNK_ROOM)
 }
 
 fn limit_formed(flag: u64, limit: u64) -> bool
     ensures { λ r. ⌜ r ≡ limitFormed flag limit ⌝ }
 {
-    if flag == 0 {
+    if flag == NO_LIMIT {
         return limit == 0;
     }
-    if flag != 1 {
+    if flag != LIMITED {
         return false;
     }
     limit <= types::MOST_SIZE
@@ -69,14 +114,17 @@ fn node_formed(volume: &[u8], at: usize) -> bool
     requires { ⌜ at + 40 ≤ length (now volume) ⌝ }
     ensures { λ r. ⌜ r ≡ nodeFormed (now (volume .entry)) at ⌝ }
 {
-    if 2 < words::get8(volume, at + 8) {
+    if MOST_KIND < words::get8(volume, at + KIND) {
         return false;
     }
-    if !limit_formed(words::get8(volume, at + 9), words::get64(volume, at + 32)) {
+    if !limit_formed(
+        words::get8(volume, at + FLAG),
+        words::get64(volume, at + LIMIT),
+    ) {
         return false;
     }
-    let spare = at + 10;
-    words::is_zero(&volume[spare..spare + 6])
+    let spare = at + SPARE;
+    words::is_zero(&volume[spare..spare + SPARE_BYTES])
 }
 
 // Whether the rows in use can be nodes' rows.
@@ -112,14 +160,14 @@ fn entry_formed(volume: &[u8], at: usize) -> bool
     requires { ⌜ at + 280 ≤ length (now volume) ⌝ }
     ensures { λ r. ⌜ r ≡ entryFormed (now (volume .entry)) at ⌝ }
 {
-    let size = words::get32(volume, at + 20) as usize;
+    let size = words::get32(volume, at + NAME_SIZE) as usize;
     if size < 1 {
         return false;
     }
     if types::MOST_NAME < size {
         return false;
     }
-    let rest = at + 24 + size;
+    let rest = at + NAME + size;
     let unused = types::NAME_ROOM - size;
     words::is_zero(&volume[rest..rest + unused])
 }
@@ -169,13 +217,28 @@ fn is_formed(volume: &[u8]) -> bool
         return false;
     }
     let layout = volume::read_layout(volume);
-    if !nodes_formed(volume, layout.nodes, words::get64(volume, 32) as usize, words::get64(volume, 8) as usize) {
+    if !nodes_formed(
+        volume,
+        layout.nodes,
+        words::get64(volume, NODES_USED) as usize,
+        words::get64(volume, NODE_ROOM) as usize,
+    ) {
         return false;
     }
-    if !entries_formed(volume, layout.entries, words::get64(volume, 40) as usize, words::get64(volume, 16) as usize) {
+    if !entries_formed(
+        volume,
+        layout.entries,
+        words::get64(volume, ENTRIES_USED) as usize,
+        words::get64(volume, ENTRY_ROOM) as usize,
+    ) {
         return false;
     }
-    chunks_formed(volume, layout.chunks, words::get64(volume, 48) as usize, words::get64(volume, 24) as usize)
+    chunks_formed(
+        volume,
+        layout.chunks,
+        words::get64(volume, CHUNKS_USED) as usize,
+        words::get64(volume, CHUNK_ROOM) as usize,
+    )
 }
 
 pub fn is_framed(volume: &[u8]) -> bool
