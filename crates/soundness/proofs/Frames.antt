@@ -17,10 +17,13 @@ use Rattle.types.specs.Sizes.{mostSize, mostName, nameRoom}
 use Rattle.allocator.specs.Sizes.{acceptedSize}
 use Rattle.allocator.specs.Allocator.{marker}
 use Rattle.volume.specs.Volume.{form, atNodes, atEntries, atChunks, atBytes}
-use Rattle.volume.specs.declared.Layout.{Layout}
-use Rattle.volume.specs.Geometry.{layoutOf}
+use denote.Enum.Declared.{tagOf}
+use Rattle.volume.specs.declared.Place.{Place}
+use Rattle.volume.specs.declared.Place.the-variants.{At, Nowhere}
+use Rattle.volume.specs.Geometry.{placed, placeOf}
 use Rattle.volume.specs.Framed.{Headed, Marked, NodeFormed, EntryFormed, RowsFormed, Framed}
-use Rattle.volume.proofs.Places.{says-placed}
+use Rattle.volume.proofs.Place.{the-type}
+use Rattle.volume.proofs.Places.{says-placed, not-placed, is-placed}
 use Rattle.soundness.specs.Frame.{headed, marked, limitFormed, nodeFormed, entryFormed, rowsFormed, formed, framed}
 
 -- ---- the tests mean what the records say
@@ -107,6 +110,18 @@ headed-true l e = says-true (says-headed l) e
 pub zero-part : (l : List ℕ) (at n : ℕ) {r : Bool} → r ≡ allZero (take (at + n - at) (drop at l)) → r ≡ allZero (part l at n)
 unfolding part
 zero-part l at n e = let k : at + n - at ≡ n = omega arith in rw k at e
+
+-- rooms that a header holds, and the place that they give
+module _ (l : List ℕ) {n e c : ℕ} (p : n ≡ word l 8) (q : e ≡ word l 16) (t : c ≡ word l 24) (r : Place) where
+  pub placed-no : tagOf the-type r ≡ 1 → r ≡ placeOf n e c (length l) → placed (word l 8) (word l 16) (word l 24) (length l) ≡ false
+  placed-no k h = rw (← p, ← q, ← t) (not-placed n e c (length l) r k h)
+
+  pub placed-yes : tagOf the-type r ≡ 0 → r ≡ placeOf n e c (length l) → placed (word l 8) (word l 16) (word l 24) (length l) ≡ true
+  placed-yes k h = rw (← p, ← q, ← t) (go r k h)
+    where
+      go : (s : Place) → tagOf the-type s ≡ 0 → s ≡ placeOf n e c (length l) → placed n e c (length l) ≡ true
+      go (At y) k h = is-placed n e c (length l) h .0
+      go Nowhere k h = absurd (omega arith)
 
 all-rows : (n : ℕ) → upto n (λ _. true) ≡ true
 unfolding upto both
