@@ -1,6 +1,6 @@
 -- Laws of the frame: the test says whether bytes are framed, and what its code finds.
 -- Assumes nothing.
-use mathlib.Core.Path.{_≡_, refl, sym, ap, _∙_}
+use mathlib.Core.Path.{_≡_, refl, ap, _∙_}
 use mathlib.Core.Bool.{Bool, true, false, false≢true}
 use mathlib.Core.Logic.{_⊎_, inl, inr}
 use mathlib.Core.List.{List}
@@ -16,11 +16,12 @@ use Rattle.words.proofs.Blocks.{says-zero}
 use Rattle.types.specs.Sizes.{mostSize, mostName, nameRoom}
 use Rattle.allocator.specs.Sizes.{acceptedSize}
 use Rattle.allocator.specs.Allocator.{marker}
-use Rattle.volume.specs.Volume.{form, atNodes, atEntries, atChunks, atBytes}
+use Rattle.volume.specs.Volume.{form, atNodes, atEntries, atChunks}
 use denote.Enum.Declared.{tagOf}
 use Rattle.volume.specs.declared.Place.{Place}
 use Rattle.volume.specs.declared.Place.the-variants.{At, Nowhere}
-use Rattle.volume.specs.Geometry.{placed, placeOf}
+use Rattle.volume.specs.declared.Layout.{Layout}
+use Rattle.volume.specs.Geometry.{layoutOf, placed, placeOf}
 use Rattle.volume.specs.Framed.{Headed, Marked, NodeFormed, EntryFormed, RowsFormed, Framed}
 use Rattle.volume.proofs.Place.{the-type}
 use Rattle.volume.proofs.Places.{says-placed, not-placed, is-placed}
@@ -135,6 +136,22 @@ any-rows s l at used room e = go-on _ _ (all-rows used) e
 pub entry-rest : (l : List ℕ) (at : ℕ) {n : ℕ} {r : Bool} → r ≡ allZero (part l (at + 24 + n) (256 - n)) → n ≡ num 4 l (at + 20) → r ≡ allZero (part l (at + 24 + num 4 l (at + 20)) (nameRoom - num 4 l (at + 20)))
 entry-rest l at e p = rw (← p) e
 
--- rows at a base that a layout holds
-pub rows-at : (row : ℕ → Bool) (s : ℕ) (l : List ℕ) {base at used u room m : ℕ} {r : Bool} → base ≡ at → used ≡ u → room ≡ m → r ≡ rowsFormed row s l base used room → r ≡ rowsFormed row s l at u m
-rows-at row s l p q t e = e ∙ rw (p, q, t)
+-- the tables of a header that was checked, with numbers that were read
+module _ (l : List ℕ) {y : Layout} (k : y ≡ layoutOf (word l 8) (word l 16) (word l 24)) {used room : ℕ} where
+  pub nodes-fit : Headed l → used ≡ word l 32 → room ≡ word l 8 → (used ≤ room) × (y .nodes + 40 * room ≤ length l)
+  nodes-fit h p q = let b = ap (λ z. z .nodes) k in (omega arith, omega arith)
+
+  pub entries-fit : Headed l → used ≡ word l 40 → room ≡ word l 16 → (used ≤ room) × (y .entries + 280 * room ≤ length l)
+  entries-fit h p q = let b = ap (λ z. z .entries) k in (omega arith, omega arith)
+
+  pub chunks-fit : Headed l → used ≡ word l 48 → room ≡ word l 24 → (used ≤ room) × (y .chunks + 24 * room ≤ length l)
+  chunks-fit h p q = let b = ap (λ z. z .chunks) k in (omega arith, omega arith)
+
+  pub nodes-at : {r : Bool} → used ≡ word l 32 → room ≡ word l 8 → r ≡ rowsFormed (nodeFormed l) 40 l (y .nodes) used room → r ≡ rowsFormed (nodeFormed l) 40 l (atNodes (word l 24)) (word l 32) (word l 8)
+  nodes-at p q e = e ∙ rw (k, p, q)
+
+  pub entries-at : {r : Bool} → used ≡ word l 40 → room ≡ word l 16 → r ≡ rowsFormed (entryFormed l) 280 l (y .entries) used room → r ≡ rowsFormed (entryFormed l) 280 l (atEntries (word l 8) (word l 24)) (word l 40) (word l 16)
+  entries-at p q e = e ∙ rw (k, p, q)
+
+  pub chunks-at : {r : Bool} → used ≡ word l 48 → room ≡ word l 24 → r ≡ rowsFormed (λ _. true) 24 l (y .chunks) used room → r ≡ rowsFormed (λ _. true) 24 l (atChunks (word l 8) (word l 16) (word l 24)) (word l 48) (word l 24)
+  chunks-at p q e = e ∙ rw (k, p, q)

@@ -2,18 +2,18 @@
 use volume::Place;
 ghost use mathlib.Core.Path.{_≡_};
 ghost use mathlib.Core.Bool.{true};
-ghost use Prim.Native.Nat.{_+_, _-_, _*_, _≤_};
+ghost use Prim.Native.Nat.{_+_, _*_, _≤_};
 ghost use lib.ListN.{length};
-ghost use Rattle.words.specs.Bytes.{word};
 ghost use Rattle.words.specs.Rule.{upto};
 ghost use Rattle.volume.specs.Framed.{Headed};
-ghost use Rattle.volume.specs.Volume.{form};
 ghost use Rattle.soundness.specs.Frame.{headed, marked, limitFormed, nodeFormed, entryFormed, rowsFormed, formed, framed};
 
+// The header's bytes.
 const HEADER: usize = 64;
 
 const FORM: u64 = 1;
 
+// Within the header.
 const NODE_ROOM: usize = 8;
 
 const ENTRY_ROOM: usize = 16;

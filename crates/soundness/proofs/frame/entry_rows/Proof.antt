@@ -1,23 +1,14 @@
 use Rattle.soundness.proofs.frame.entry_rows.Statement.{statement}
-use Rattle.soundness.proofs.frame.entry_rows.Tie as tie
-use Rattle.soundness.proofs.frame.entry_rows.Reads as reads
-use Rattle.soundness.proofs.frame.entry_rows.Lts as lts
-use Rattle.soundness.proofs.frame.entry_formed.Reads as entry-formed-reads
 use borrow.Author.Needs.{needs}
 use denote.Ref.{now}
 use native.Mathlib.Omega.{arith}
-use Rattle.words.proofs.Rules.{upto-start, upto-turn, upto-fail, upto-end, stop, go-on, pick-true, pick-false, le-yes, le-no, is-yes, is-no, call-no, call-yes, by2, by1, le-yes2, le-no2, le-as}
-use Rattle.soundness.proofs.Frames.{headed-true, zero-part, any-rows, entry-rest, rows-at}
-use Rattle.volume.proofs.Places.{not-placed, is-placed}
-use Rattle.words.specs.Rule.{upto, both, allZero}
-use Rattle.soundness.specs.Frame.{headed, marked, limitFormed, nodeFormed, entryFormed, rowsFormed, formed, framed}
-use Rattle.allocator.specs.Sizes.{acceptedSize}
-use borrow.Author.Tests.{eq-eqb, ne-eqb, le-leb, lt-leb}
-use mathlib.Core.Bool.{Bool, true, false}
-use mathlib.Core.Path.{_≡_, refl, sym, ap, _∙_}
-use Prim.Native.Nat.{ℕ, _+_, _-_, _*_, _≤_, _<_}
-use lib.ListN.{length}
-use Rattle.words.specs.Bytes.{word, num, part}
+use Rattle.words.proofs.Rules.{upto-start, upto-turn, upto-fail, upto-end, call-no, call-yes}
+use Rattle.words.specs.Rule.{upto}
+use Rattle.soundness.specs.Frame.{entryFormed}
+use mathlib.Core.Bool.{true}
+use mathlib.Core.Path.{_≡_}
+use Prim.Native.Nat.{ℕ, _+_, _-_, _*_, _≤_}
+use Rattle.soundness.proofs.frame.entry_rows.Tie as tie
 
 abbrev Inv-loop : tie.InvT-loop
 Inv-loop volume base used i₀ i = (i ≤ used) × (upto i (λ j. entryFormed volume (base + 280 * j)) ≡ true)
@@ -25,42 +16,33 @@ Inv-loop volume base used i₀ i = (i ≤ used) × (upto i (λ j. entryFormed vo
 abbrev μ-loop : tie.MeasureT-loop
 μ-loop volume base used i₀ i = used - i
 
--- src/frame.rt:180:5
 loop-holds : tie.Need-loop-holds Inv-loop μ-loop
 loop-holds c =
     (search needs, upto-start ((λ (i : ℕ). entryFormed (now (c .before .args .volume)) (c .before .args .base + 280 * i))))
 
--- src/frame.rt:181:41
 mul-entry-formed : tie.Need-mul-entry-formed Inv-loop μ-loop
 mul-entry-formed c = search needs
 
--- src/frame.rt:181:34
 add-entry-formed : tie.Need-add-entry-formed Inv-loop μ-loop
 add-entry-formed c = search needs
 
--- src/frame.rt:181:13
 entry-formed-requires : tie.Need-entry-formed-requires Inv-loop μ-loop
 entry-formed-requires c κs = search needs
 
--- src/frame.rt:182:13
 returns : tie.Need-returns Inv-loop μ-loop
 returns c =
     upto-fail ((λ (i : ℕ). entryFormed (now (c .before .before .before .before .before .args .volume)) (c .before .before .before .before .before .args .base + 280 * i))) (c .before .before .before .before .before .args .used) (c .before .before .before .loop .i) (c .before .before .loop-test .taken) (call-no (c .before .entry-formed .ensures) (c .if1 .taken))
 
--- src/frame.rt:184:9
 add-i : tie.Need-add-i Inv-loop μ-loop
 add-i c = search needs
 
--- src/frame.rt:180:5
 loop-less : tie.Need-loop-less Inv-loop μ-loop
 loop-less c = search needs
 
--- src/frame.rt:180:5
 loop-again : tie.Need-loop-again Inv-loop μ-loop
 loop-again c =
     (search needs, upto-turn ((λ (i : ℕ). entryFormed (now (c .before .before .before .before .before .args .volume)) (c .before .before .before .before .before .args .base + 280 * i))) (c .before .before .before .loop .i) (c .before .before .before .loop .inv .1) (call-yes (c .before .entry-formed .ensures) (c .if1 .left)))
 
--- src/frame.rt:175:1
 returns-2 : tie.Need-returns-2 Inv-loop μ-loop
 returns-2 c =
     upto-end ((λ (i : ℕ). entryFormed (now (c .before .before .before .args .volume)) (c .before .before .before .args .base + 280 * i))) (c .before .before .before .args .used) (c .before .loop .i) (c .before .loop .inv .1) (omega arith)

@@ -1,95 +1,66 @@
 use borrow.Author.Needs.{needs}
 use Rattle.soundness.proofs.frame.is_headed.Statement.{statement}
-use Rattle.soundness.proofs.frame.is_headed.Tie as tie
-use Rattle.soundness.proofs.frame.is_headed.Reads as reads
-use Rattle.soundness.proofs.frame.is_headed.Lts as lts
-use Rattle.volume.proofs.place_tables.Reads as place-tables-reads
-use Rattle.words.proofs.get64.Reads as get64-reads
 use denote.Ref.{now}
-use native.Mathlib.Omega.{arith}
-use Rattle.words.proofs.Rules.{upto-start, upto-turn, upto-fail, upto-end, stop, go-on, pick-true, pick-false, le-yes, le-no, is-yes, is-no, call-no, call-yes, by2, by1, le-yes2, le-no2, le-as}
-use Rattle.soundness.proofs.Frames.{headed-true, zero-part, any-rows, entry-rest, rows-at}
-use Rattle.volume.proofs.Places.{not-placed, is-placed}
-use Rattle.words.specs.Rule.{upto, both, allZero}
-use Rattle.soundness.specs.Frame.{headed, marked, limitFormed, nodeFormed, entryFormed, rowsFormed, formed, framed}
-use Rattle.allocator.specs.Sizes.{acceptedSize}
-use borrow.Author.Tests.{eq-eqb, ne-eqb, le-leb, lt-leb}
-use mathlib.Core.Bool.{Bool, true, false}
-use mathlib.Core.Path.{_≡_, refl, sym, ap, _∙_}
-use Prim.Native.Nat.{ℕ, _+_, _-_, _*_, _≤_, _<_}
-use lib.ListN.{length}
-use Rattle.words.specs.Bytes.{word, num, part}
+use Rattle.words.proofs.Rules.{stop, go-on, is-yes, is-no, le-yes2, le-no2, le-as}
 use Rattle.soundness.proofs.Frames.{placed-no, placed-yes}
+use Rattle.soundness.specs.Frame.{headed}
+use borrow.Author.Tests.{le-leb, lt-leb}
+use Rattle.soundness.proofs.frame.is_headed.Tie as tie
 
--- src/frame.rt:65:9
 returns : tie.Need-returns
 unfolding headed
 returns c = stop _ _ (lt-leb _ _ (c .if1 .taken))
 
--- src/frame.rt:67:8
 get64-requires : tie.Need-get64-requires
 get64-requires c κs = search needs
 
--- src/frame.rt:68:9
 returns-2 : tie.Need-returns-2
 unfolding headed
 returns-2 c =
     (go-on _ _ (le-leb _ _ (c .before .before .if1 .left))) (stop _ _ (is-no (c .before .get64 .ensures) (c .if2 .taken)))
 
--- src/frame.rt:70:9
 get64-requires-2 : tie.Need-get64-requires-2
 get64-requires-2 c κs = search needs
 
--- src/frame.rt:71:9
 get64-requires-3 : tie.Need-get64-requires-3
 get64-requires-3 c κs = search needs
 
--- src/frame.rt:72:9
 get64-requires-4 : tie.Need-get64-requires-4
 get64-requires-4 c κs = search needs
 
--- src/frame.rt:73:9
 place-tables-requires : tie.Need-place-tables-requires
 place-tables-requires c κs = search needs
 
 enum-told : tie.Need-enum-told
 enum-told c = search needs
 
--- src/frame.rt:75:9
 enum-told-2 : tie.Need-enum-told-2
 enum-told-2 c = search needs
 
--- src/frame.rt:75:9
 returns-3 : tie.Need-returns-3
 unfolding headed
 returns-3 c =
     (go-on _ _ (le-leb _ _ (c .before .before .before .before .before .before .before .before .if1 .left))) ((go-on _ _ (is-yes (c .before .before .before .before .before .before .before .get64 .ensures) (c .before .before .before .before .before .before .if2 .left))) (stop _ _ (placed-no ((now (c .before .before .before .before .before .before .before .before .before .before .args .volume))) (c .before .before .before .before .before .get642 .ensures) (c .before .before .before .before .get643 .ensures) (c .before .before .before .get644 .ensures) _ (c .before .match .keys2) (c .before .before .place-tables .ensures))))
 
--- src/frame.rt:77:16
 get64-requires-5 : tie.Need-get64-requires-5
 get64-requires-5 c κs = search needs
 
--- src/frame.rt:78:9
 returns-4 : tie.Need-returns-4
 unfolding headed
 returns-4 c =
     (go-on _ _ (le-leb _ _ (c .before .before .before .before .before .before .before .before .before .before .if1 .left))) ((go-on _ _ (is-yes (c .before .before .before .before .before .before .before .before .before .get64 .ensures) (c .before .before .before .before .before .before .before .before .if2 .left))) ((go-on _ _ (placed-yes ((now (c .before .before .before .before .before .before .before .before .before .before .before .before .args .volume))) (c .before .before .before .before .before .before .before .get642 .ensures) (c .before .before .before .before .before .before .get643 .ensures) (c .before .before .before .before .before .get644 .ensures) _ (c .before .before .before .match .keys1) (c .before .before .before .before .place-tables .ensures))) (stop _ _ (le-no2 (c .before .get645 .ensures) (c .before .before .before .before .before .before .before .get642 .ensures) (c .if3 .taken)))))
 
--- src/frame.rt:80:18
 get64-requires-6 : tie.Need-get64-requires-6
 get64-requires-6 c κs = search needs
 
--- src/frame.rt:81:9
 returns-5 : tie.Need-returns-5
 unfolding headed
 returns-5 c =
     (go-on _ _ (le-leb _ _ (c .before .before .before .before .before .before .before .before .before .before .before .before .if1 .left))) ((go-on _ _ (is-yes (c .before .before .before .before .before .before .before .before .before .before .before .get64 .ensures) (c .before .before .before .before .before .before .before .before .before .before .if2 .left))) ((go-on _ _ (placed-yes ((now (c .before .before .before .before .before .before .before .before .before .before .before .before .before .before .args .volume))) (c .before .before .before .before .before .before .before .before .before .get642 .ensures) (c .before .before .before .before .before .before .before .before .get643 .ensures) (c .before .before .before .before .before .before .before .get644 .ensures) _ (c .before .before .before .before .before .match .keys1) (c .before .before .before .before .before .before .place-tables .ensures))) ((go-on _ _ (le-yes2 (c .before .before .before .get645 .ensures) (c .before .before .before .before .before .before .before .before .before .get642 .ensures) (c .before .before .if3 .left))) (stop _ _ (le-no2 (c .before .get646 .ensures) (c .before .before .before .before .before .before .before .before .get643 .ensures) (c .if4 .taken))))))
 
--- src/frame.rt:83:5
 get64-requires-7 : tie.Need-get64-requires-7
 get64-requires-7 c κs = search needs
 
--- src/frame.rt:61:1
 returns-6 : tie.Need-returns-6
 unfolding headed
 returns-6 c =
