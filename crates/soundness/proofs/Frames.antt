@@ -1,0 +1,157 @@
+-- Laws of the frame: the test says whether bytes are framed, and what its code finds.
+-- Assumes nothing.
+use mathlib.Core.Path.{_≡_, refl, ap, _∙_}
+use mathlib.Core.Bool.{Bool, true, false, false≢true}
+use mathlib.Core.Logic.{_⊎_, inl, inr}
+use mathlib.Core.List.{List}
+use Prim.Native.Nat.{ℕ, zero, suc, _+_, _-_, _*_, _≤_, _<_}
+use native.Mathlib.Omega.{arith}
+use lib.Dec.{eqb, leb}
+use lib.ListN.{length, take, drop}
+use Rattle.words.specs.Bytes.{word, num, part, zeros}
+use Rattle.words.specs.Rule.{pick, both, upto, allZero}
+use Rattle.words.proofs.Parts.{length-part}
+use Rattle.words.proofs.Rules.{Says, holds, fails, says-map, says-both, says-and, says-upto, says-eqb, says-leb, says-true, true-says, go-on}
+use Rattle.words.proofs.Blocks.{says-zero}
+use Rattle.types.specs.Sizes.{mostSize, mostName, nameRoom}
+use Rattle.allocator.specs.Sizes.{acceptedSize}
+use Rattle.allocator.specs.Allocator.{marker}
+use Rattle.volume.specs.Volume.{form, atNodes, atEntries, atChunks}
+use denote.Enum.Declared.{tagOf}
+use Rattle.volume.specs.declared.Place.{Place}
+use Rattle.volume.specs.declared.Place.the-variants.{At, Nowhere}
+use Rattle.volume.specs.declared.Layout.{Layout}
+use Rattle.volume.specs.Geometry.{layoutOf, placed, placeOf}
+use Rattle.volume.specs.Framed.{Headed, Marked, NodeFormed, EntryFormed, RowsFormed, Framed}
+use Rattle.volume.proofs.Place.{the-type}
+use Rattle.volume.proofs.Places.{says-placed, not-placed, is-placed}
+use Rattle.soundness.specs.Frame.{headed, marked, limitFormed, nodeFormed, entryFormed, rowsFormed, formed, framed}
+
+-- ---- the tests mean what the records say
+
+says-bool : (b : Bool) → Says (b ≡ true) b
+says-bool true = holds refl
+says-bool false = fails (λ e. false≢true e)
+
+pub says-headed : (l : List ℕ) → Says (Headed l) (headed l)
+unfolding headed
+says-headed l =
+    says-map (λ p. record { least = p .0; formed = p .1 .0; placed = p .1 .1 .0; nodes = p .1 .1 .1 .0; entries = p .1 .1 .1 .1 .0; chunks = p .1 .1 .1 .1 .1 })
+    (λ h. (h .least, (h .formed, (h .placed, (h .nodes, (h .entries, h .chunks))))))
+    (says-both (says-leb 64 (length l)) (says-both (says-eqb (word l 0) form) (says-both (says-placed (word l 8) (word l 16) (word l 24) (length l))
+    (says-both (says-leb (word l 32) (word l 8)) (says-both (says-leb (word l 40) (word l 16)) (says-leb (word l 48) (word l 24)))))))
+
+pub says-marked : (l : List ℕ) → Says (Marked l) (marked l)
+unfolding marked
+says-marked l =
+    says-map (λ p. record { mark = p .0; size = p .1 .0; free = p .1 .1 }) (λ h. (h .mark, (h .size, h .free)))
+    (says-both (says-eqb (word l 64) marker) (says-both (says-bool (acceptedSize (word l 72))) (says-leb (word l 80) (word l 24))))
+
+-- the part is n bytes long
+says-zeros : (l : List ℕ) (at n : ℕ) → at + n ≤ length l → Says (part l at n ≡ zeros n) (allZero (part l at n))
+says-zeros l at n h = says-map (λ e. rw (length-part l at n h) at e) (λ e. rw (length-part l at n h) e) (says-zero (part l at n))
+
+pub says-limit : (flag n : ℕ) → Says (((flag ≡ 0) × (n ≡ 0)) ⊎ ((flag ≡ 1) × (n ≤ mostSize))) (limitFormed flag n)
+unfolding limitFormed pick
+says-limit flag n = go (says-eqb flag 0)
+  where
+    go : {t : Bool} → Says (flag ≡ 0) t → Says (((flag ≡ 0) × (n ≡ 0)) ⊎ ((flag ≡ 1) × (n ≤ mostSize))) (pick t (eqb n 0) (both (eqb flag 1) (leb n mostSize)))
+    go (holds z) = says-map (λ e. inl (z, e)) back (says-eqb n 0)
+      where
+        back : ((flag ≡ 0) × (n ≡ 0)) ⊎ ((flag ≡ 1) × (n ≤ mostSize)) → n ≡ 0
+        back (inl p) = p .1
+        back (inr p) = absurd (omega arith)
+    go (fails z) = says-map (λ p. inr p) back (says-both (says-eqb flag 1) (says-leb n mostSize))
+      where
+        back : ((flag ≡ 0) × (n ≡ 0)) ⊎ ((flag ≡ 1) × (n ≤ mostSize)) → (flag ≡ 1) × (n ≤ mostSize)
+        back (inl p) = absurd (z (p .0))
+        back (inr p) = p
+
+module _ (l : List ℕ) (at : ℕ) where
+  pub says-node : at + 40 ≤ length l → Says (NodeFormed l at) (nodeFormed l at)
+  unfolding nodeFormed
+  says-node h =
+      says-map (λ p. record { kind = p .0; limit = p .1 .0; spare = p .1 .1 }) (λ f. (f .kind, (f .limit, f .spare)))
+      (says-both (says-leb (num 1 l (at + 8)) 2) (says-both (says-limit (num 1 l (at + 9)) (word l (at + 32))) (says-zeros l (at + 10) 6 (omega arith))))
+
+  pub says-entry : at + 280 ≤ length l → Says (EntryFormed l at) (entryFormed l at)
+  unfolding entryFormed
+  says-entry h =
+      says-map (λ p. record { least = p .0; most = p .1 .0; rest = p .1 .1 }) (λ f. (f .least, (f .most, f .rest)))
+      (says-both (says-leb 1 (num 4 l (at + 20))) (says-and (says-leb (num 4 l (at + 20)) mostName) (λ m. says-zeros l (at + 24 + num 4 l (at + 20)) (nameRoom - num 4 l (at + 20)) (omega arith))))
+
+pub says-rows : (Row : ℕ → Type 0) (row : ℕ → Bool) (s : ℕ) (l : List ℕ) (at used room : ℕ) → at + s * used + s * (room - used) ≤ length l → ((i : ℕ) → i < used → Says (Row (at + s * i)) (row (at + s * i)))
+    → Says (RowsFormed Row s l at used room) (rowsFormed row s l at used room)
+unfolding rowsFormed
+says-rows Row row s l at used room h each =
+    says-map (λ p. record { rows = p .0; unused = p .1 }) (λ f. (f .rows, f .unused))
+    (says-both (says-upto (λ i. Row (at + s * i)) (λ i. row (at + s * i)) used each) (says-zeros l (at + s * used) (s * (room - used)) h))
+
+pub says-framed : (l : List ℕ) → Says (Framed l) (framed l)
+unfolding framed formed
+says-framed l =
+    says-map (λ p. record { headed = p .0; marked = p .1 .0; nodes = p .1 .1 .0; entries = p .1 .1 .1 .0; chunks = p .1 .1 .1 .1 }) (λ f. (f .headed, (f .marked, (f .nodes, (f .entries, f .chunks)))))
+    (says-and (says-headed l) (λ h. says-both (says-marked l)
+    (says-both (says-rows (NodeFormed l) (nodeFormed l) 40 l (atNodes (word l 24)) (word l 32) (word l 8) (omega arith) (λ i b. says-node l (atNodes (word l 24) + 40 * i) (omega arith)))
+    (says-both (says-rows (EntryFormed l) (entryFormed l) 280 l (atEntries (word l 8) (word l 24)) (word l 40) (word l 16) (omega arith) (λ i b. says-entry l (atEntries (word l 8) (word l 24) + 280 * i) (omega arith)))
+    (says-rows (λ _. Unit {0}) (λ _. true) 24 l (atChunks (word l 8) (word l 16) (word l 24)) (word l 48) (word l 24) (omega arith) (λ i b. holds tt))))))
+
+pub framed-true : (l : List ℕ) → framed l ≡ true → Framed l
+framed-true l e = says-true (says-framed l) e
+
+pub true-framed : (l : List ℕ) → Framed l → framed l ≡ true
+true-framed l f = true-says (says-framed l) f
+
+pub headed-true : (l : List ℕ) → headed l ≡ true → Headed l
+headed-true l e = says-true (says-headed l) e
+
+-- ---- what the code finds
+
+-- a part that was lent
+pub zero-part : (l : List ℕ) (at n : ℕ) {r : Bool} → r ≡ allZero (take (at + n - at) (drop at l)) → r ≡ allZero (part l at n)
+unfolding part
+zero-part l at n e = let k : at + n - at ≡ n = omega arith in rw k at e
+
+-- rooms that a header holds, and the place that they give
+module _ (l : List ℕ) {n e c : ℕ} (p : n ≡ word l 8) (q : e ≡ word l 16) (t : c ≡ word l 24) (r : Place) where
+  pub placed-no : tagOf the-type r ≡ 1 → r ≡ placeOf n e c (length l) → placed (word l 8) (word l 16) (word l 24) (length l) ≡ false
+  placed-no k h = rw (← p, ← q, ← t) (not-placed n e c (length l) r k h)
+
+  pub placed-yes : tagOf the-type r ≡ 0 → r ≡ placeOf n e c (length l) → placed (word l 8) (word l 16) (word l 24) (length l) ≡ true
+  placed-yes k h = rw (← p, ← q, ← t) (go r k h)
+    where
+      go : (s : Place) → tagOf the-type s ≡ 0 → s ≡ placeOf n e c (length l) → placed n e c (length l) ≡ true
+      go (At y) k h = is-placed n e c (length l) h .0
+      go Nowhere k h = absurd (omega arith)
+
+all-rows : (n : ℕ) → upto n (λ _. true) ≡ true
+unfolding upto both
+all-rows zero = refl
+all-rows (suc n) = rw (all-rows n)
+
+pub any-rows : (s : ℕ) (l : List ℕ) (at used room : ℕ) {r : Bool} → r ≡ allZero (part l (at + s * used) (s * (room - used))) → r ≡ rowsFormed (λ _. true) s l at used room
+unfolding rowsFormed
+any-rows s l at used room e = go-on _ _ (all-rows used) e
+
+pub entry-rest : (l : List ℕ) (at : ℕ) {n : ℕ} {r : Bool} → r ≡ allZero (part l (at + 24 + n) (256 - n)) → n ≡ num 4 l (at + 20) → r ≡ allZero (part l (at + 24 + num 4 l (at + 20)) (nameRoom - num 4 l (at + 20)))
+entry-rest l at e p = rw (← p) e
+
+-- the tables of a header that was checked, with numbers that were read
+module _ (l : List ℕ) {y : Layout} (k : y ≡ layoutOf (word l 8) (word l 16) (word l 24)) {used room : ℕ} where
+  pub nodes-fit : Headed l → used ≡ word l 32 → room ≡ word l 8 → (used ≤ room) × (y .nodes + 40 * room ≤ length l)
+  nodes-fit h p q = let b = ap (λ z. z .nodes) k in (omega arith, omega arith)
+
+  pub entries-fit : Headed l → used ≡ word l 40 → room ≡ word l 16 → (used ≤ room) × (y .entries + 280 * room ≤ length l)
+  entries-fit h p q = let b = ap (λ z. z .entries) k in (omega arith, omega arith)
+
+  pub chunks-fit : Headed l → used ≡ word l 48 → room ≡ word l 24 → (used ≤ room) × (y .chunks + 24 * room ≤ length l)
+  chunks-fit h p q = let b = ap (λ z. z .chunks) k in (omega arith, omega arith)
+
+  pub nodes-at : {r : Bool} → used ≡ word l 32 → room ≡ word l 8 → r ≡ rowsFormed (nodeFormed l) 40 l (y .nodes) used room → r ≡ rowsFormed (nodeFormed l) 40 l (atNodes (word l 24)) (word l 32) (word l 8)
+  nodes-at p q e = e ∙ rw (k, p, q)
+
+  pub entries-at : {r : Bool} → used ≡ word l 40 → room ≡ word l 16 → r ≡ rowsFormed (entryFormed l) 280 l (y .entries) used room → r ≡ rowsFormed (entryFormed l) 280 l (atEntries (word l 8) (word l 24)) (word l 40) (word l 16)
+  entries-at p q e = e ∙ rw (k, p, q)
+
+  pub chunks-at : {r : Bool} → used ≡ word l 48 → room ≡ word l 24 → r ≡ rowsFormed (λ _. true) 24 l (y .chunks) used room → r ≡ rowsFormed (λ _. true) 24 l (atChunks (word l 8) (word l 16) (word l 24)) (word l 48) (word l 24)
+  chunks-at p q e = e ∙ rw (k, p, q)

@@ -1,0 +1,82 @@
+use borrow.Author.Needs.{needs}
+use Rattle.soundness.proofs.frame.node_formed.Statement.{statement}
+use denote.Ref.{now}
+use Rattle.words.proofs.Rules.{stop, go-on, le-yes, le-no, call-no, call-yes, by2}
+use Rattle.soundness.proofs.Frames.{zero-part}
+use Rattle.soundness.specs.Frame.{limitFormed, nodeFormed}
+use Prim.Native.Nat.{_+_}
+use Rattle.soundness.proofs.frame.node_formed.Tie as tie
+
+add-get8 : tie.Need-add-get8
+add-get8 c = search needs
+
+get8-requires : tie.Need-get8-requires
+get8-requires c κs = search needs
+
+returns : tie.Need-returns
+unfolding nodeFormed
+returns c = stop _ _ (le-no (c .before .get8 .ensures .0) (c .if1 .taken))
+
+add-get8-2 : tie.Need-add-get8-2
+add-get8-2 c = search needs
+
+get8-requires-2 : tie.Need-get8-requires-2
+get8-requires-2 c κs = search needs
+
+add-get64 : tie.Need-add-get64
+add-get64 c = search needs
+
+get64-requires : tie.Need-get64-requires
+get64-requires c κs = search needs
+
+limit-formed-requires : tie.Need-limit-formed-requires
+limit-formed-requires c κs = search needs
+
+returns-2 : tie.Need-returns-2
+unfolding nodeFormed
+returns-2 c =
+    (go-on _ _ (le-yes (c .before .before .before .before .before .get8 .ensures .0) (c .before .before .before .before .if1 .left))) (stop _ _ (call-no ((by2 limitFormed (c .before .limit-formed .ensures) (c .before .before .before .get82 .ensures .0) (c .before .before .get64 .ensures))) (c .if2 .taken)))
+
+add-spare : tie.Need-add-spare
+add-spare c = search needs
+
+add-is-zero : tie.Need-add-is-zero
+add-is-zero c = search needs
+
+sub-is-zero : tie.Need-sub-is-zero
+sub-is-zero c = search needs
+
+part-is-zero-start : tie.Need-part-is-zero-start
+part-is-zero-start c = search needs
+
+part-is-zero-end : tie.Need-part-is-zero-end
+part-is-zero-end c = search needs
+
+is-zero-requires : tie.Need-is-zero-requires
+is-zero-requires c κs = search needs
+
+returns-3 : tie.Need-returns-3
+unfolding nodeFormed
+returns-3 c =
+    (go-on _ _ (le-yes (c .before .before .before .before .before .before .before .get8 .ensures .0) (c .before .before .before .before .before .before .if1 .left))) (go-on _ _ (call-yes ((by2 limitFormed (c .before .before .before .limit-formed .ensures) (c .before .before .before .before .before .get82 .ensures .0) (c .before .before .before .before .get64 .ensures))) (c .before .before .if2 .left)) (zero-part ((now (c .before .before .before .before .before .before .before .before .before .args .volume))) (c .before .before .before .before .before .before .before .before .before .args .at + 10) 6 (c .is-zero .ensures)))
+
+pub node-formed-spec : {M : Type 1} → statement M
+node-formed-spec =
+    tie.close
+    (tie.spec
+    add-get8
+    get8-requires
+    returns
+    add-get8-2
+    get8-requires-2
+    add-get64
+    get64-requires
+    limit-formed-requires
+    returns-2
+    add-spare
+    add-is-zero
+    sub-is-zero
+    part-is-zero-start
+    part-is-zero-end
+    is-zero-requires
+    returns-3)

@@ -1,0 +1,251 @@
+// The form of the bytes. Nothing in them is trusted: no number read is used before it is tested.
+use volume::Place;
+ghost use mathlib.Core.Path.{_≡_};
+ghost use mathlib.Core.Bool.{true};
+ghost use Prim.Native.Nat.{_+_, _*_, _≤_};
+ghost use lib.ListN.{length};
+ghost use Rattle.words.specs.Rule.{upto};
+ghost use Rattle.volume.specs.Framed.{Headed};
+ghost use Rattle.soundness.specs.Frame.{headed, marked, limitFormed, nodeFormed, entryFormed, rowsFormed, formed, framed};
+
+// The header's bytes.
+const HEADER: usize = 64;
+
+const FORM: u64 = 1;
+
+// Within the header.
+const NODE_ROOM: usize = 8;
+
+const ENTRY_ROOM: usize = 16;
+
+const CHUNK_ROOM: usize = 24;
+
+const NODES_USED: usize = 32;
+
+const ENTRIES_USED: usize = 40;
+
+const CHUNKS_USED: usize = 48;
+
+// The allocator's words, from the start of the volume.
+const MARK: usize = 64;
+
+const CHUNK_SIZE: usize = 72;
+
+const FREE_COUNT: usize = 80;
+
+const MARKER: u64 = 826364742;
+
+// Within a node's row.
+const KIND: usize = 8;
+
+const FLAG: usize = 9;
+
+const SPARE: usize = 10;
+
+const SPARE_BYTES: usize = 6;
+
+const LIMIT: usize = 32;
+
+const MOST_KIND: u64 = 2;
+
+const NO_LIMIT: u64 = 0;
+
+const LIMITED: u64 = 1;
+
+// Within an entry's row.
+const NAME_SIZE: usize = 20;
+
+const NAME: usize = 24;
+
+// The form, the geometry and the length, used counts that fit.
+fn is_headed(volume: &[u8]) -> bool
+    ensures { λ r. ⌜ r ≡ headed (now (volume .entry)) ⌝ }
+{
+    if volume.len() < HEADER {
+        return false;
+    }
+    if words::get64(volume, 0) != FORM {
+        return false;
+    }
+    let nodes = words::get64(volume, NODE_ROOM);
+    let entries = words::get64(volume, ENTRY_ROOM);
+    let chunks = words::get64(volume, CHUNK_ROOM);
+    let place = volume::place_tables(nodes, entries, chunks, volume.len() as u64);
+    let Place::At(_) = place else {
+        return false;
+    };
+    if nodes < words::get64(volume, NODES_USED) {
+        return false;
+    }
+    if entries < words::get64(volume, ENTRIES_USED) {
+        return false;
+    }
+    words::get64(volume, CHUNKS_USED) <= chunks
+}
+
+// The allocator's marker, chunk size and free count; its words are a part of the volume that starts in its middle.
+fn is_marked(volume: &[u8]) -> bool
+    requires { ⌜ Headed (now volume) ⌝ }
+    ensures { λ r. ⌜ r ≡ marked (now (volume .entry)) ⌝ }
+{
+    if words::get64(volume, MARK) != MARKER {
+        return false;
+    }
+    if !allocator::accepted(words::get64(volume, CHUNK_SIZE)) {
+        return false;
+    }
+    words::get64(volume, FREE_COUNT) <= words::get64(volume, CHUNK_ROOM)
+}
+
+fn limit_formed(flag: u64, limit: u64) -> bool
+    ensures { λ r. ⌜ r ≡ limitFormed flag limit ⌝ }
+{
+    if flag == NO_LIMIT {
+        return limit == 0;
+    }
+    if flag != LIMITED {
+        return false;
+    }
+    limit <= types::MOST_SIZE
+}
+
+// Whether the bytes at index at can be a node's row.
+fn node_formed(volume: &[u8], at: usize) -> bool
+    requires { ⌜ at + 40 ≤ length (now volume) ⌝ }
+    ensures { λ r. ⌜ r ≡ nodeFormed (now (volume .entry)) at ⌝ }
+{
+    if MOST_KIND < words::get8(volume, at + KIND) {
+        return false;
+    }
+    if !limit_formed(
+        words::get8(volume, at + FLAG),
+        words::get64(volume, at + LIMIT),
+    ) {
+        return false;
+    }
+    let spare = at + SPARE;
+    words::is_zero(&volume[spare..spare + SPARE_BYTES])
+}
+
+// Whether the rows in use can be nodes' rows.
+fn node_rows(volume: &[u8], base: usize, used: usize) -> bool
+    requires { ⌜ base + 40 * used ≤ length (now volume) ⌝ }
+    ensures { λ r. ⌜ r ≡ upto used (λ i. nodeFormed (now (volume .entry)) (base + 40 * i)) ⌝ }
+{
+    let mut i = 0;
+    while i < used {
+        if !node_formed(volume, base + types::NODE_ROW * i) {
+            return false;
+        }
+        i += 1;
+    }
+    true
+}
+
+// The same, and the rows that are not in use are zero.
+fn nodes_formed(volume: &[u8], base: usize, used: usize, room: usize) -> bool
+    requires { ⌜ (used ≤ room) × (base + 40 * room ≤ length (now volume)) ⌝ }
+    ensures { λ r. ⌜ r ≡ rowsFormed (nodeFormed (now (volume .entry))) 40 (now (volume .entry)) base used room ⌝ }
+{
+    if !node_rows(volume, base, used) {
+        return false;
+    }
+    let rest = base + types::NODE_ROW * used;
+    let unused = types::NODE_ROW * (room - used);
+    words::is_zero(&volume[rest..rest + unused])
+}
+
+// Whether the bytes at index at can be an entry's row.
+fn entry_formed(volume: &[u8], at: usize) -> bool
+    requires { ⌜ at + 280 ≤ length (now volume) ⌝ }
+    ensures { λ r. ⌜ r ≡ entryFormed (now (volume .entry)) at ⌝ }
+{
+    let size = words::get32(volume, at + NAME_SIZE) as usize;
+    if size < 1 {
+        return false;
+    }
+    if types::MOST_NAME < size {
+        return false;
+    }
+    let rest = at + NAME + size;
+    let unused = types::NAME_ROOM - size;
+    words::is_zero(&volume[rest..rest + unused])
+}
+
+fn entry_rows(volume: &[u8], base: usize, used: usize) -> bool
+    requires { ⌜ base + 280 * used ≤ length (now volume) ⌝ }
+    ensures { λ r. ⌜ r ≡ upto used (λ i. entryFormed (now (volume .entry)) (base + 280 * i)) ⌝ }
+{
+    let mut i = 0;
+    while i < used {
+        if !entry_formed(volume, base + types::ENTRY_ROW * i) {
+            return false;
+        }
+        i += 1;
+    }
+    true
+}
+
+fn entries_formed(volume: &[u8], base: usize, used: usize, room: usize) -> bool
+    requires { ⌜ (used ≤ room) × (base + 280 * room ≤ length (now volume)) ⌝ }
+    ensures { λ r. ⌜ r ≡ rowsFormed (entryFormed (now (volume .entry))) 280 (now (volume .entry)) base used room ⌝ }
+{
+    if !entry_rows(volume, base, used) {
+        return false;
+    }
+    let rest = base + types::ENTRY_ROW * used;
+    let unused = types::ENTRY_ROW * (room - used);
+    words::is_zero(&volume[rest..rest + unused])
+}
+
+// Any bytes can be a chunk's row; what they say is for the rules of the rows.
+fn chunks_formed(volume: &[u8], base: usize, used: usize, room: usize) -> bool
+    requires { ⌜ (used ≤ room) × (base + 24 * room ≤ length (now volume)) ⌝ }
+    ensures { λ r. ⌜ r ≡ rowsFormed (λ _. true) 24 (now (volume .entry)) base used room ⌝ }
+{
+    let rest = base + types::CHUNK_ROW * used;
+    let unused = types::CHUNK_ROW * (room - used);
+    words::is_zero(&volume[rest..rest + unused])
+}
+
+// The marker, and the rows' form.
+fn is_formed(volume: &[u8]) -> bool
+    requires { ⌜ Headed (now volume) ⌝ }
+    ensures { λ r. ⌜ r ≡ formed (now (volume .entry)) ⌝ }
+{
+    if !is_marked(volume) {
+        return false;
+    }
+    let layout = volume::read_layout(volume);
+    if !nodes_formed(
+        volume,
+        layout.nodes,
+        words::get64(volume, NODES_USED) as usize,
+        words::get64(volume, NODE_ROOM) as usize,
+    ) {
+        return false;
+    }
+    if !entries_formed(
+        volume,
+        layout.entries,
+        words::get64(volume, ENTRIES_USED) as usize,
+        words::get64(volume, ENTRY_ROOM) as usize,
+    ) {
+        return false;
+    }
+    chunks_formed(
+        volume,
+        layout.chunks,
+        words::get64(volume, CHUNKS_USED) as usize,
+        words::get64(volume, CHUNK_ROOM) as usize,
+    )
+}
+
+pub fn is_framed(volume: &[u8]) -> bool
+    ensures { λ r. ⌜ r ≡ framed (now (volume .entry)) ⌝ }
+{
+    if !is_headed(volume) {
+        return false;
+    }
+    is_formed(volume)
+}

@@ -1,0 +1,4 @@
+// Whether a memory is a sound volume: one function for each rule of the scope, in its order.
+mod frame;
+
+pub use frame::is_framed;
