@@ -11,29 +11,12 @@ ghost use Rattle.soundness.specs.Frame.{headed, marked, limitFormed, nod
 // The header's bytes.
 const HEADER: usize = 64;
 
-const FORM: u64 = 1;
-
-// Within the header.
-const NODE_ROOM: usize = 8;
-
-const ENTRY_ROOM: usize = 16;
-
-const CHUNK_ROOM: usize = 24;
-
-const NODES_USED: usize = 32;
-
-const ENTRIES_USED: usize = 40;
-
-const CHUNKS_USED: usize = 48;
-
 // The allocator's words, from the start of the volume.
 const MARK: usize = 64;
 
 const CHUNK_SIZE: usize = 72;
 
 const FREE_COUNT: usize = 80;
-
-const MARKER: u64 = 826364742;
 
 // Within a node's row.
 const KIND: usize = 8;
@@ -64,23 +47,23 @@ fn is_headed(volume: &[u8]) -> bool
     if volume.len() < HEADER {
         return false;
     }
-    if words::get64(volume, 0) != FORM {
+    if words::get64(volume, 0) != volume::FORM {
         return false;
     }
-    let nodes = words::get64(volume, NODE_ROOM);
-    let entries = words::get64(volume, ENTRY_ROOM);
-    let chunks = words::get64(volume, CHUNK_ROOM);
+    let nodes = words::get64(volume, volume::NODE_ROOM);
+    let entries = words::get64(volume, volume::ENTRY_ROOM);
+    let chunks = words::get64(volume, volume::CHUNK_ROOM);
     let place = volume::place_tables(nodes, entries, chunks, volume.len() as u64);
     let Place::At(_) = place else {
         return false;
     };
-    if nodes < words::get64(volume, NODES_USED) {
+    if nodes < words::get64(volume, volume::NODES_USED) {
         return false;
     }
-    if entries < words::get64(volume, ENTRIES_USED) {
+    if entries < words::get64(volume, volume::ENTRIES_USED) {
         return false;
     }
-    words::get64(volume, CHUNKS_USED) <= chunks
+    words::get64(volume, volume::CHUNKS_USED) <= chunks
 }
 
 // The allocator's marker, chunk size and free count; its words are a part of the volume that starts in its middle.
@@ -88,13 +71,13 @@ fn is_marked(volume: &[u8]) -> bool
     requires { ⌜ Headed (now volume) ⌝ }
     ensures { λ r. ⌜ r ≡ marked (now (volume .entry)) ⌝ }
 {
-    if words::get64(volume, MARK) != MARKER {
+    if words::get64(volume, MARK) != allocator::MARKER {
         return false;
     }
     if !allocator::accepted(words::get64(volume, CHUNK_SIZE)) {
         return false;
     }
-    words::get64(volume, FREE_COUNT) <= words::get64(volume, CHUNK_ROOM)
+    words::get64(volume, FREE_COUNT) <= words::get64(volume, volume::CHUNK_ROOM)
 }
 
 fn limit_formed(flag: u64, limit: u64) -> bool
@@ -220,24 +203,24 @@ fn is_formed(volume: &[u8]) -> bool
     if !nodes_formed(
         volume,
         layout.nodes,
-        words::get64(volume, NODES_USED) as usize,
-        words::get64(volume, NODE_ROOM) as usize,
+        words::get64(volume, volume::NODES_USED) as usize,
+        words::get64(volume, volume::NODE_ROOM) as usize,
     ) {
         return false;
     }
     if !entries_formed(
         volume,
         layout.entries,
-        words::get64(volume, ENTRIES_USED) as usize,
-        words::get64(volume, ENTRY_ROOM) as usize,
+        words::get64(volume, volume::ENTRIES_USED) as usize,
+        words::get64(volume, volume::ENTRY_ROOM) as usize,
     ) {
         return false;
     }
     chunks_formed(
         volume,
         layout.chunks,
-        words::get64(volume, CHUNKS_USED) as usize,
-        words::get64(volume, CHUNK_ROOM) as usize,
+        words::get64(volume, volume::CHUNKS_USED) as usize,
+        words::get64(volume, volume::CHUNK_ROOM) as usize,
     )
 }
 
