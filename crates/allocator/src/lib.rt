@@ -1,6 +1,8 @@
 // The chunk pointer allocator, on its words alone: a part of the volume that starts in its middle.
 mod opening;
 
+pub use opening::all_lined;
+pub use opening::is_lined;
 pub use opening::open;
 use types::Answer;
 use types::Error;
@@ -55,7 +57,7 @@ fn get_len(words: &[u8]) -> u64
     words::get64(words, AVAILABLE_CHUNKS_LEN)
 }
 
-fn get_ptr(words: &[u8], index: usize) -> u64
+pub fn get_ptr(words: &[u8], index: usize) -> u64
     requires { ⌜ 128 + 8 * index + 8 ≤ length (now words) ⌝ }
     ensures { λ r. ⌜ r ≡ word (now (words .entry)) (128 + 8 * index) ⌝ }
 {

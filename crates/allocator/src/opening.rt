@@ -58,7 +58,8 @@ fn is_sized(words: &[u8]) -> bool
     accepted(size)
 }
 
-fn is_lined(size: u64, next: u64, pointer: u64) -> bool
+// Aligned and below word 3.
+pub fn is_lined(size: u64, next: u64, pointer: u64) -> bool
     requires { ⌜ 0 < size ⌝ }
     ensures { λ r. ⌜ r ≡ lined size next pointer ⌝ }
 {
@@ -69,7 +70,7 @@ fn is_lined(size: u64, next: u64, pointer: u64) -> bool
 }
 
 // Every free pointer is aligned and below word 3.
-fn all_lined(words: &[u8], count: usize, size: u64, next: u64) -> bool
+pub fn all_lined(words: &[u8], count: usize, size: u64, next: u64) -> bool
     requires { ⌜ (0 < size) × (128 + 8 * count ≤ length (now words)) ⌝ }
     ensures { λ r. ⌜ r ≡ upto count (λ i. lined size next (freeWord (now (words .entry)) i)) ⌝ }
 {

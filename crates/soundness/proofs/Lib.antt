@@ -1,1 +1,3 @@
 pub mod Frames
+pub mod Accounted
+pub mod FreeWords
