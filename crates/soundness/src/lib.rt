@@ -1,4 +1,5 @@
 // Whether a memory is a sound volume: one function for each rule of the scope, in its order.
 mod frame;
+mod order;
 
 pub use frame::is_framed;
