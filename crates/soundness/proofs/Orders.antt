@@ -1,18 +1,18 @@
 -- What the tests of rows mean.
 -- Assumes nothing.
-use mathlib.Core.Path.{_≡_, refl, sym, ap, _∙_}
+use mathlib.Core.Path.{_≡_, refl, ap}
 use mathlib.Core.Bool.{Bool, true, false, not, false≢true, true≢false}
 use mathlib.Core.List.{List, [], _∷_}
-use mathlib.Core.Option.{Option, none, some}
-use Prim.Native.Nat.{ℕ, zero, suc, _+_, _-_, _≤_, _<_}
+use mathlib.Core.Option.{some}
+use Prim.Native.Nat.{ℕ, _+_, _-_, _≤_, _<_}
 use native.Mathlib.Omega.{arith}
 use lib.Dec.{eqb, ltb, leb}
-use lib.ListN.{length, getD}
-use borrow.Author.Tests.{eqb-true, eqb-false, ne-eqb, le-leb}
-use Rattle.words.specs.Rule.{both, upto, bit, times, pick}
+use lib.ListN.{length}
+use borrow.Author.Tests.{ne-eqb, le-leb}
+use Rattle.words.specs.Rule.{both, bit, times, pick}
 use Rattle.words.specs.Table.{Each, Asc, find}
 use Rattle.words.proofs.Order.{each-map}
-use Rattle.words.proofs.Rules.{Says, holds, fails, says-map, says-and, says-both, says-not, says-eqb, says-leb, says-ltb}
+use Rattle.words.proofs.Rules.{Says, holds, fails, says-map, says-leb, says-ltb}
 use Rattle.words.proofs.Search.{find-none}
 use Rattle.types.specs.Nodes.{kindByte}
 use Rattle.types.specs.declared.FileType.{FileType}

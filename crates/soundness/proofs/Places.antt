@@ -1,12 +1,12 @@
 -- Rows by their place, as code reads them, and a test of every place as a test of every row.
 -- Assumes nothing.
-use mathlib.Core.Path.{_≡_, refl, sym, ap, _∙_}
-use mathlib.Core.Bool.{Bool, true, false}
+use mathlib.Core.Path.{_≡_, sym, ap, _∙_}
+use mathlib.Core.Bool.{Bool}
 use mathlib.Core.List.{List, [], _∷_}
 use Prim.Native.Nat.{ℕ, zero, suc, _+_, _-_, _*_, _≤_, _<_}
 use native.Mathlib.Numerals.{add-one}
 use native.Mathlib.Omega.{arith}
-use lib.Dec.{eqb, ltb, leb}
+use lib.Dec.{ltb}
 use lib.ListN.{length, getD}
 use Rattle.words.specs.Bytes.{part, word, num}
 use Rattle.words.specs.Rule.{upto}
@@ -17,7 +17,7 @@ use Rattle.words.proofs.Tables.{table-at}
 use Rattle.types.specs.Sizes.{nameRoom}
 use Rattle.types.specs.declared.NodeRecord.{NodeRecord}
 use Rattle.volume.specs.declared.Layout.{Layout}
-use Rattle.volume.specs.Rows.{Entry, readEntry, layEntry}
+use Rattle.volume.specs.Rows.{readEntry, layEntry}
 use Rattle.volume.specs.Framed.{EntryFits}
 use Rattle.volume.specs.Volume.{shown, atEntries}
 use Rattle.volume.specs.Search.{pairBefore}

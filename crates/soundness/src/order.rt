@@ -1,7 +1,6 @@
 // Rules of rows that look at one row, or at one and the next.
 use types::FileType;
 use volume::Layout;
-
 ghost use mathlib.Core.Path.{_≡_};
 ghost use mathlib.Core.Bool.{not};
 ghost use Prim.Native.Nat.{_+_, _<_};
@@ -195,7 +194,7 @@ pub fn is_rooted(volume: &[u8], layout: Layout) -> bool
     requires { ⌜ Ready (now volume) layout ⌝ }
     ensures { λ r. ⌜ r ≡ rooted (shown (now (volume .entry)) .nodes) ⌝ }
 {
-    if tables::nodes_used(volume, layout) < 1 {
+    if tables::nodes_used(volume, layout) <= ROOT_ROW {
         return false;
     }
     let root = tables::node_row(volume, layout, ROOT_ROW);

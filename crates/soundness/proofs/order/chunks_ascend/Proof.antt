@@ -1,29 +1,18 @@
 use Rattle.soundness.proofs.order.chunks_ascend.Statement.{statement}
-use Rattle.soundness.proofs.order.chunks_ascend.Tie as tie
-use Rattle.soundness.proofs.order.chunks_ascend.Reads as reads
-use Rattle.soundness.proofs.order.chunks_ascend.Lts as lts
-use Rattle.soundness.proofs.order.chunk_ascends.Reads as chunk-ascends-reads
-use Rattle.tables.proofs.chunks_used.Reads as chunks-used-reads
 use borrow.Author.Needs.{needs}
 use denote.Ref.{now}
-use mathlib.Core.Path.{_≡_, refl, sym, ap, _∙_}
-use mathlib.Core.Bool.{true, false, not}
-use Prim.Native.Nat.{ℕ, _+_, _-_, _*_, _≤_, _<_}
+use mathlib.Core.Path.{_≡_}
+use mathlib.Core.Bool.{true}
+use Prim.Native.Nat.{ℕ, _+_, _-_, _≤_}
 use native.Mathlib.Omega.{arith}
 use lib.ListN.{length}
-use lib.Dec.{eqb, ltb, leb}
-use borrow.Author.Tests.{eq-eqb, ne-eqb, lt-ltb, le-ltb, le-leb, lt-leb}
-use Rattle.words.specs.Rule.{upto, both}
-use Rattle.words.proofs.Rules.{upto-start, upto-turn, upto-fail, upto-end, call-yes, call-no, le-as, eqb2, stop, go-on, le-yes, le-no, is-yes, is-no}
-use Rattle.types.specs.Nodes.{kindByte}
-use Rattle.paths.specs.Path.{nameAllowed}
-use Rattle.volume.specs.Rows.{Entry}
+use Rattle.words.specs.Rule.{upto}
+use Rattle.words.proofs.Rules.{upto-start, upto-turn, upto-fail, upto-end, call-yes, call-no}
 use Rattle.volume.specs.Volume.{shown}
 use Rattle.volume.specs.Search.{pairBefore}
-use Rattle.tables.specs.Tables.{nodeAt, entryAt, chunkAt}
-use Rattle.tables.proofs.Rooms.{rooms, count-nodes, count-entries, count-chunks, node-key}
-use Rattle.soundness.specs.Order.{nodesAscend, entriesAscend, chunksAscend, indexed, nodesBelow, rooted, rootUnnamed, namesAllowed}
-use Rattle.soundness.proofs.Places.{entry-there, name-there, lt-as, pair-as}
+use Rattle.tables.specs.Tables.{chunkAt}
+use Rattle.soundness.specs.Order.{chunksAscend}
+use Rattle.soundness.proofs.order.chunks_ascend.Tie as tie
 
 abbrev Inv-loop : tie.InvT-loop
 Inv-loop volume layout used i₀ i =
@@ -32,47 +21,38 @@ Inv-loop volume layout used i₀ i =
 abbrev μ-loop : tie.MeasureT-loop
 μ-loop volume layout used i₀ i = used - i
 
--- src/order.rt:118:9
 chunks-used-requires : tie.Need-chunks-used-requires Inv-loop μ-loop
 chunks-used-requires c κs = search needs
 
--- src/order.rt:120:5
 loop-holds : tie.Need-loop-holds Inv-loop μ-loop
 loop-holds c =
-    (search needs, upto-start ((λ (j : ℕ). pairBefore (chunkAt ((shown ((now (c .before .before .args .volume))) .chunks)) j .node) (chunkAt ((shown ((now (c .before .before .args .volume))) .chunks)) j .index) (chunkAt ((shown ((now (c .before .before .args .volume))) .chunks)) (j + 1) .node) (chunkAt ((shown ((now (c .before .before .args .volume))) .chunks)) (j + 1) .index))))
+    (search needs, upto-start (λ (j : ℕ). pairBefore (chunkAt (shown (now (c .before .before .args .volume)) .chunks) j .node) (chunkAt (shown (now (c .before .before .args .volume)) .chunks) j .index) (chunkAt (shown (now (c .before .before .args .volume)) .chunks) (j + 1) .node) (chunkAt (shown (now (c .before .before .args .volume)) .chunks) (j + 1) .index)))
 
--- src/order.rt:120:11
 add-loop : tie.Need-add-loop Inv-loop μ-loop
 add-loop c = search needs
 
--- src/order.rt:121:13
 chunk-ascends-requires : tie.Need-chunk-ascends-requires Inv-loop μ-loop
 chunk-ascends-requires c κs = (c .before .before .before .before .pre, omega (arith, c .before .before .chunks-used .ensures .0))
 
--- src/order.rt:122:13
 returns : tie.Need-returns Inv-loop μ-loop
 unfolding chunksAscend
 returns c =
-    upto-fail ((λ (j : ℕ). pairBefore (chunkAt ((shown ((now (c .before .before .before .before .before .before .args .volume))) .chunks)) j .node) (chunkAt ((shown ((now (c .before .before .before .before .before .before .args .volume))) .chunks)) j .index) (chunkAt ((shown ((now (c .before .before .before .before .before .before .args .volume))) .chunks)) (j + 1) .node) (chunkAt ((shown ((now (c .before .before .before .before .before .before .args .volume))) .chunks)) (j + 1) .index))) (length ((shown ((now (c .before .before .before .before .before .before .args .volume))) .chunks)) - 1) (c .before .before .before .loop .i) (omega (arith, c .before .before .before .before .chunks-used .ensures .0)) (call-no (c .before .chunk-ascends .ensures) (c .if1 .taken))
+    upto-fail (λ (j : ℕ). pairBefore (chunkAt (shown (now (c .before .before .before .before .before .before .args .volume)) .chunks) j .node) (chunkAt (shown (now (c .before .before .before .before .before .before .args .volume)) .chunks) j .index) (chunkAt (shown (now (c .before .before .before .before .before .before .args .volume)) .chunks) (j + 1) .node) (chunkAt (shown (now (c .before .before .before .before .before .before .args .volume)) .chunks) (j + 1) .index)) (length (shown (now (c .before .before .before .before .before .before .args .volume)) .chunks) - 1) (c .before .before .before .loop .i) (omega (arith, c .before .before .before .before .chunks-used .ensures .0)) (call-no (c .before .chunk-ascends .ensures) (c .if1 .taken))
 
--- src/order.rt:124:9
 add-i : tie.Need-add-i Inv-loop μ-loop
 add-i c = search needs
 
--- src/order.rt:120:5
 loop-less : tie.Need-loop-less Inv-loop μ-loop
 loop-less c = search needs
 
--- src/order.rt:120:5
 loop-again : tie.Need-loop-again Inv-loop μ-loop
 loop-again c =
-    (omega arith, upto-turn ((λ (j : ℕ). pairBefore (chunkAt ((shown ((now (c .before .before .before .before .before .before .args .volume))) .chunks)) j .node) (chunkAt ((shown ((now (c .before .before .before .before .before .before .args .volume))) .chunks)) j .index) (chunkAt ((shown ((now (c .before .before .before .before .before .before .args .volume))) .chunks)) (j + 1) .node) (chunkAt ((shown ((now (c .before .before .before .before .before .before .args .volume))) .chunks)) (j + 1) .index))) (c .before .before .before .loop .i) (c .before .before .before .loop .inv .1) (call-yes (c .before .chunk-ascends .ensures) (c .if1 .left)))
+    (omega arith, upto-turn (λ (j : ℕ). pairBefore (chunkAt (shown (now (c .before .before .before .before .before .before .args .volume)) .chunks) j .node) (chunkAt (shown (now (c .before .before .before .before .before .before .args .volume)) .chunks) j .index) (chunkAt (shown (now (c .before .before .before .before .before .before .args .volume)) .chunks) (j + 1) .node) (chunkAt (shown (now (c .before .before .before .before .before .before .args .volume)) .chunks) (j + 1) .index)) (c .before .before .before .loop .i) (c .before .before .before .loop .inv .1) (call-yes (c .before .chunk-ascends .ensures) (c .if1 .left)))
 
--- src/order.rt:114:1
 returns-2 : tie.Need-returns-2 Inv-loop μ-loop
 unfolding chunksAscend
 returns-2 c =
-    upto-end ((λ (j : ℕ). pairBefore (chunkAt ((shown ((now (c .before .before .before .before .args .volume))) .chunks)) j .node) (chunkAt ((shown ((now (c .before .before .before .before .args .volume))) .chunks)) j .index) (chunkAt ((shown ((now (c .before .before .before .before .args .volume))) .chunks)) (j + 1) .node) (chunkAt ((shown ((now (c .before .before .before .before .args .volume))) .chunks)) (j + 1) .index))) (length ((shown ((now (c .before .before .before .before .args .volume))) .chunks)) - 1) (c .before .loop .i) (c .before .loop .inv .1) (omega (arith, c .before .before .chunks-used .ensures .0))
+    upto-end (λ (j : ℕ). pairBefore (chunkAt (shown (now (c .before .before .before .before .args .volume)) .chunks) j .node) (chunkAt (shown (now (c .before .before .before .before .args .volume)) .chunks) j .index) (chunkAt (shown (now (c .before .before .before .before .args .volume)) .chunks) (j + 1) .node) (chunkAt (shown (now (c .before .before .before .before .args .volume)) .chunks) (j + 1) .index)) (length (shown (now (c .before .before .before .before .args .volume)) .chunks) - 1) (c .before .loop .i) (c .before .loop .inv .1) (omega (arith, c .before .before .chunks-used .ensures .0))
 
 pub chunks-ascend-spec : {M : Type 1} → statement M
 chunks-ascend-spec =
