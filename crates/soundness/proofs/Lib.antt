@@ -1,3 +1,5 @@
 pub mod Frames
+pub mod Places
+pub mod Orders
 pub mod Accounted
 pub mod FreeWords

@@ -21,6 +21,7 @@ pub use geometry::read_layout;
 pub use nodes::read_node;
 pub use nodes::seek_node;
 pub use nodes::write_node;
+pub use pairs::pair_before;
 
 // The form that the bytes have.
 pub const FORM: u64 = 1;

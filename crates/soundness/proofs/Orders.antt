@@ -1,0 +1,115 @@
+-- What the tests of rows mean.
+-- Assumes nothing.
+use mathlib.Core.Path.{_≡_, refl, ap}
+use mathlib.Core.Bool.{Bool, true, false, not, false≢true, true≢false}
+use mathlib.Core.List.{List, [], _∷_}
+use mathlib.Core.Option.{some}
+use Prim.Native.Nat.{ℕ, _+_, _-_, _≤_, _<_}
+use native.Mathlib.Omega.{arith}
+use lib.Dec.{eqb, ltb, leb}
+use lib.ListN.{length}
+use borrow.Author.Tests.{ne-eqb, le-leb}
+use Rattle.words.specs.Rule.{both, bit, times, pick}
+use Rattle.words.specs.Table.{Each, Asc, find}
+use Rattle.words.proofs.Order.{each-map}
+use Rattle.words.proofs.Rules.{Says, holds, fails, says-map, says-leb, says-ltb}
+use Rattle.words.proofs.Search.{find-none}
+use Rattle.types.specs.Nodes.{kindByte}
+use Rattle.types.specs.declared.FileType.{FileType}
+use Rattle.types.specs.declared.FileType.the-variants.{Directory, RegularFile, SymbolicLink}
+use Rattle.types.specs.declared.NodeRecord.{NodeRecord}
+use Rattle.paths.specs.Path.{nameAllowed}
+use Rattle.volume.specs.declared.ChunkRow.{ChunkRow}
+use Rattle.volume.specs.Rows.{Entry, readNode, readEntry, readChunk}
+use Rattle.volume.specs.Volume.{Volume}
+use Rattle.volume.specs.Search.{pairBefore}
+use Rattle.volume.specs.Sound.{node, isDirectory, naming, nodeBefore, entryBefore, chunkBefore}
+use Rattle.tables.proofs.Finds.{says-pair, pair-trans}
+use Rattle.soundness.specs.Order.{nodesAscend, entriesAscend, chunksAscend, indexed, nodesBelow, rooted, rootUnnamed, namesAllowed}
+use Rattle.soundness.proofs.Places.{each-places, asc-places}
+
+-- ---- orders
+
+pub says-node-order : (rs : List NodeRecord) → Says (Asc nodeBefore rs) (nodesAscend rs)
+unfolding nodesAscend
+says-node-order rs = asc-places (readNode []) nodeBefore (λ a b c h k. omega arith) (λ a b. ltb (a .node) (b .node)) (λ a b. says-ltb (a .node) (b .node)) rs
+
+pub says-entry-order : (es : List Entry) → Says (Asc entryBefore es) (entriesAscend es)
+unfolding entriesAscend
+says-entry-order es =
+    asc-places (readEntry []) entryBefore (λ a b c h k. pair-trans (a .parent) (a .index) (b .parent) (b .index) (c .parent) (c .index) h k)
+    (λ a b. pairBefore (a .parent) (a .index) (b .parent) (b .index)) (λ a b. says-pair (a .parent) (a .index) (b .parent) (b .index)) es
+
+pub says-chunk-order : (cs : List ChunkRow) → Says (Asc chunkBefore cs) (chunksAscend cs)
+unfolding chunksAscend
+says-chunk-order cs =
+    asc-places (readChunk []) chunkBefore (λ a b c h k. pair-trans (a .node) (a .index) (b .node) (b .index) (c .node) (c .index) h k)
+    (λ a b. pairBefore (a .node) (a .index) (b .node) (b .index)) (λ a b. says-pair (a .node) (a .index) (b .node) (b .index)) cs
+
+-- ---- what holds of each row
+
+pub says-indexed : (es : List Entry) → Says (Each (λ e. 1 ≤ e .index) es) (indexed es)
+unfolding indexed
+says-indexed es = each-places (λ e. 1 ≤ e .index) (readEntry []) (λ e. leb 1 (e .index)) (λ e. says-leb 1 (e .index)) es
+
+pub says-below : (next : ℕ) (rs : List NodeRecord) → Says (Each (λ r. r .node < next) rs) (nodesBelow next rs)
+unfolding nodesBelow
+says-below next rs = each-places (λ r. r .node < next) (readNode []) (λ r. ltb (r .node) next) (λ r. says-ltb (r .node) next) rs
+
+says-itself : (b : Bool) → Says (b ≡ true) b
+says-itself true = holds refl
+says-itself false = fails (λ e. false≢true e)
+
+pub says-names : (es : List Entry) → Says (Each (λ e. nameAllowed (e .name) ≡ true) es) (namesAllowed es)
+unfolding namesAllowed
+says-names es = each-places (λ e. nameAllowed (e .name) ≡ true) (readEntry []) (λ e. nameAllowed (e .name)) (λ e. says-itself (nameAllowed (e .name))) es
+
+-- ---- node 0
+
+-- nothing is counted where nothing passes, and the other way round
+none-pass : {R : Type 0} (p : R → Bool) (rs : List R) → Each (λ r. p r ≡ false) rs → times p rs ≡ 0
+unfolding Each times bit
+none-pass p [] h = refl
+none-pass p (r ∷ rs) h = rw (h .0, none-pass p rs (h .1))
+
+pass-none : {R : Type 0} (p : R → Bool) (rs : List R) → times p rs ≡ 0 → Each (λ r. p r ≡ false) rs
+unfolding Each times bit
+pass-none p [] h = tt
+pass-none p (r ∷ rs) h = go (p r) refl h (pass-none p rs)
+  where
+    go : (b : Bool) → p r ≡ b → bit b + times p rs ≡ 0 → (times p rs ≡ 0 → Each (λ s. p s ≡ false) rs) → (p r ≡ false) × Each (λ s. p s ≡ false) rs
+    go true e z k = absurd (omega arith)
+    go false e z k = (e, k (omega arith))
+
+says-opposite : (b : Bool) → Says (b ≡ false) (not b)
+says-opposite true = fails (λ e. true≢false e)
+says-opposite false = holds refl
+
+pub says-unnamed : (es : List Entry) → Says (naming 0 es ≡ 0) (rootUnnamed es)
+unfolding rootUnnamed naming
+says-unnamed es =
+    says-map (none-pass (λ e. eqb (e .node) 0) es) (pass-none (λ e. eqb (e .node) 0) es)
+    (each-places (λ e. eqb (e .node) 0 ≡ false) (readEntry []) (λ e. not (eqb (e .node) 0)) (λ e. says-opposite (eqb (e .node) 0)) es)
+
+says-directory : (k : FileType) → Says (k ≡ Directory) (eqb (kindByte k) 0)
+says-directory Directory = holds refl
+says-directory RegularFile = fails (λ e. let k : _≡_ {A = ℕ} 1 0 = ap kindByte e in omega arith)
+says-directory SymbolicLink = fails (λ e. let k : _≡_ {A = ℕ} 2 0 = ap kindByte e in omega arith)
+
+-- behind a row of an ascending table no row is node 0
+not-behind : (r : NodeRecord) (rs : List NodeRecord) → Each (nodeBefore r) rs → Each (λ s. eqb (s .node) 0 ≡ false) rs
+not-behind r rs a = each-map (nodeBefore r) (λ s. eqb (s .node) 0 ≡ false) (λ s k. ne-eqb (s .node) 0 (λ e. omega arith)) rs a
+
+found-root : (rs : List NodeRecord) → Asc nodeBefore rs → Says (isDirectory (find (λ r. eqb (r .node) 0) rs)) (rooted rs)
+unfolding rooted both find pick Asc
+found-root [] a = fails (λ z. z)
+found-root (r ∷ rs) a = go (leb 1 (length (r ∷ rs))) (le-leb 1 (length (r ∷ rs)) (omega arith)) (eqb (r .node) 0) refl
+  where
+    go : (t : Bool) → t ≡ true → (b : Bool) → eqb (r .node) 0 ≡ b → Says (isDirectory (pick b (some r) (find (λ s. eqb (s .node) 0) rs))) (both t (both b (eqb (kindByte (r .kind)) 0)))
+    go false e b q = absurd (false≢true e)
+    go true e true q = says-directory (r .kind)
+    go true e false q = fails (λ z. let w : isDirectory (find (λ s. eqb (s .node) 0) rs) = z in rw (find-none (λ s. eqb (s .node) 0) rs (not-behind r rs (a .0))) at w)
+
+pub says-root : (v : Volume) → Asc nodeBefore (v .nodes) → Says (isDirectory (node 0 v)) (rooted (v .nodes))
+unfolding node
+says-root v a = found-root (v .nodes) a

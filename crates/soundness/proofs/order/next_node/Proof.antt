@@ -1,0 +1,17 @@
+use Rattle.soundness.proofs.order.next_node.Statement.{statement}
+use denote.Ref.{now}
+use Prim.Native.Nat.{_-_}
+use native.Mathlib.Omega.{arith}
+use Rattle.volume.specs.Volume.{shown}
+use Rattle.tables.proofs.Rooms.{rooms}
+use Rattle.soundness.proofs.order.next_node.Tie as tie
+
+get64-requires : tie.Need-get64-requires
+get64-requires c κs = omega (arith, rooms (now (c .before .args .volume)) (c .before .args .layout) (c .before .pre))
+
+returns : tie.Need-returns
+unfolding shown
+returns c = c .get64 .ensures
+
+pub next-node-spec : {M : Type 1} → statement M
+next-node-spec = tie.close (tie.spec get64-requires returns)
