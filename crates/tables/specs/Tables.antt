@@ -8,6 +8,7 @@ use lib.ListN.{length, getD}
 use lib.Dec.{eqb, ltb}
 use Rattle.words.specs.Rule.{pick, both}
 use Rattle.words.specs.Table.{lead}
+use Rattle.types.specs.declared.Limit.{Limit}
 use Rattle.types.specs.declared.NodeRecord.{NodeRecord}
 use Rattle.volume.specs.declared.Layout.{Layout}
 use Rattle.volume.specs.declared.ChunkRow.{ChunkRow}
@@ -45,3 +46,14 @@ isChunk n i c = both (eqb (c .node) n) (eqb (c .index) i)
 
 unfoldable pub foundChunk : ℕ → ℕ → List ChunkRow → Found
 foundChunk n i cs = pick (ltb (lead (chunkUnder n i) cs) (length cs)) (pick (isChunk n i (chunkAt cs (lead (chunkUnder n i) cs))) (At (lead (chunkUnder n i) cs)) Nothing) Nothing
+
+-- ---- one field of a node's row changed
+
+abbrev pub sized : ℕ → NodeRecord → NodeRecord
+sized n r = record { node = r .node; kind = r .kind; limit = r .limit; links = r .links; size = n }
+
+abbrev pub linked : ℕ → NodeRecord → NodeRecord
+linked n r = record { node = r .node; kind = r .kind; limit = r .limit; links = n; size = r .size }
+
+abbrev pub limited : Limit → NodeRecord → NodeRecord
+limited m r = record { node = r .node; kind = r .kind; limit = m; links = r .links; size = r .size }

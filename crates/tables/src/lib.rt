@@ -1,5 +1,6 @@
 // The three tables of a volume that is laid out: rows found, put in, taken out and changed. Used counts in the header move with them.
 // Each function says what it makes of the table as a list of rows, and that all else stays.
+use types::Limit;
 use types::NodeRecord;
 use volume::ChunkRow;
 use volume::Layout;
@@ -12,7 +13,7 @@ ghost use Rattle.types.specs.Sizes.{mostName};
 ghost use Rattle.volume.specs.Volume.{shown, laid, withNext, withNodes, withEntries, withChunks};
 ghost use Rattle.volume.specs.Search.{entryUnder};
 ghost use Rattle.volume.specs.Sound.{nodeBefore, entryBefore, chunkBefore};
-ghost use Rattle.tables.specs.Tables.{Ready, nodeAt, chunkAt, foundNode, foundChunk};
+ghost use Rattle.tables.specs.Tables.{Ready, nodeAt, chunkAt, foundNode, foundChunk, sized, linked, limited};
 
 pub enum Found {
     At(usize),
@@ -117,6 +118,45 @@ pub fn change_node(volume: &mut [u8], layout: Layout, i: usize, row: NodeRecord)
 {
     let base = layout.nodes;
     volume::write_node(volume, base + types::NODE_ROW * i, row);
+}
+
+// One field of a node's row changed.
+pub fn set_size(volume: &mut [u8], layout: Layout, i: usize, size: u64)
+    requires { ⌜ Ready (now volume) layout × (i < length (shown (now volume) .nodes)) ⌝ }
+    ensures { λ _. ⌜ now (volume .exit) ≡ laid (withNodes (set (shown (now (volume .entry)) .nodes) i (sized size (nodeAt (shown (now (volume .entry)) .nodes) i))) (shown (now (volume .entry)))) ⌝ }
+{
+    let mut row = node_row(volume, layout, i);
+    row.size = size;
+    change_node(volume, layout, i, row);
+}
+
+pub fn set_links(volume: &mut [u8], layout: Layout, i: usize, links: u64)
+    requires { ⌜ Ready (now volume) layout × (i < length (shown (now volume) .nodes)) ⌝ }
+    ensures { λ _. ⌜ now (volume .exit) ≡ laid (withNodes (set (shown (now (volume .entry)) .nodes) i (linked links (nodeAt (shown (now (volume .entry)) .nodes) i))) (shown (now (volume .entry)))) ⌝ }
+{
+    let mut row = node_row(volume, layout, i);
+    row.links = links;
+    change_node(volume, layout, i, row);
+}
+
+pub fn set_limit(volume: &mut [u8], layout: Layout, i: usize, limit: Limit)
+    requires { ⌜ Ready (now volume) layout × (i < length (shown (now volume) .nodes)) ⌝ }
+    ensures { λ _. ⌜ now (volume .exit) ≡ laid (withNodes (set (shown (now (volume .entry)) .nodes) i (limited limit (nodeAt (shown (now (volume .entry)) .nodes) i))) (shown (now (volume .entry)))) ⌝ }
+{
+    let row = node_row(volume, layout, i);
+    let kind = row.kind;
+    change_node(
+        volume,
+        layout,
+        i,
+        NodeRecord {
+            node: row.node,
+            kind,
+            limit,
+            links: row.links,
+            size: row.size,
+        },
+    );
 }
 
 // A node made last has the greatest number, so that its row comes behind the others.
