@@ -16,6 +16,9 @@ ghost use Rattle.volume.specs.Volume.{atNodes};
 ghost use Rattle.volume.specs.Framed.{Placed};
 ghost use Rattle.volume.specs.Fresh.{root, newVolume, freshLaid};
 
+// The number of the first node made behind node 0.
+const FIRST_NODE: u64 = 1;
+
 // Node 0, a directory that no entry names.
 fn root() -> NodeRecord
     ensures { λ r. ⌜ r ≡ root ⌝ }
@@ -44,7 +47,7 @@ fn lay(volume: &mut [u8], nodes: u64, entries: u64, chunks: u64, size: u64, at: 
         1,
         0,
         0,
-        1,
+        FIRST_NODE,
         allocator::MARKER,
         size,
     ];
