@@ -1,49 +1,21 @@
 -- Rows by their place, as code reads them, and a test of every place as a test of every row.
 -- Assumes nothing.
-use mathlib.Core.Path.{_≡_, sym, ap, _∙_}
+use mathlib.Core.Path.{_≡_, ap, _∙_}
 use mathlib.Core.Bool.{Bool}
 use mathlib.Core.List.{List, [], _∷_}
-use Prim.Native.Nat.{ℕ, zero, suc, _+_, _-_, _*_, _≤_, _<_}
+use Prim.Native.Nat.{ℕ, zero, suc, _+_, _-_, _<_}
 use native.Mathlib.Numerals.{add-one}
 use native.Mathlib.Omega.{arith}
 use lib.Dec.{ltb}
 use lib.ListN.{length, getD}
-use Rattle.words.specs.Bytes.{part, word, num}
 use Rattle.words.specs.Rule.{upto}
 use Rattle.words.specs.Table.{Each, Asc}
 use Rattle.words.proofs.Order.{each-at, each-map}
 use Rattle.words.proofs.Rules.{Says, says-map, says-upto}
-use Rattle.words.proofs.Tables.{table-at}
-use Rattle.types.specs.Sizes.{nameRoom}
 use Rattle.types.specs.declared.NodeRecord.{NodeRecord}
-use Rattle.volume.specs.declared.Layout.{Layout}
-use Rattle.volume.specs.Rows.{readEntry, layEntry}
-use Rattle.volume.specs.Framed.{EntryFits}
-use Rattle.volume.specs.Volume.{shown, atEntries}
 use Rattle.volume.specs.Search.{pairBefore}
-use Rattle.volume.proofs.RowLaws.{entry-formed}
-use Rattle.volume.proofs.Laid.{spaced, entry-laid}
-use Rattle.tables.specs.Tables.{Ready, nodeAt, entryAt}
-use Rattle.tables.proofs.Rooms.{rooms, count-entries}
+use Rattle.tables.specs.Tables.{nodeAt}
 use Rattle.soundness.specs.Order.{nodesBelow}
-
--- ---- an entry's row, by its place
-
-module _ (l : List ℕ) (y : Layout) (r : Ready l y) (i : ℕ) {at : ℕ} (h : i < length (shown l .entries)) (e : at ≡ y .entries + 280 * i) where
-  pub entry-there : readEntry (part l at 280) ≡ entryAt (shown l .entries) i
-  unfolding shown
-  entry-there =
-      ap (λ (k : ℕ). readEntry (part l k 280)) (e ∙ ap (λ (k : ℕ). k + 280 * i) (rooms l y r .entries))
-      ∙ sym (table-at readEntry 280 l (atEntries (word l 8) (word l 24)) (word l 40) i (readEntry []) (omega (arith, count-entries l)))
-
-  -- its name has its place in the row
-  pub name-there : num 4 l (at + 20) ≤ nameRoom
-  name-there =
-      let v = shown l in
-      let f = r .formed .fits in
-      let a : at ≡ atEntries (v .nodeRoom) (v .chunkRoom) + 280 * i = e ∙ ap (λ (z : Layout). z .entries + 280 * i) (r .layout) in
-      let q : part l at 280 ≡ layEntry (entryAt (v .entries) i) = rw a (rw (r .formed .same) at (entry-laid v (spaced v f) i (readEntry []) h)) in
-      omega (arith, entry-formed l at (entryAt (v .entries) i) (each-at EntryFits (v .entries) i (readEntry []) (f .entryRows) h) q .most)
 
 -- ---- a comparison of what callees gave
 

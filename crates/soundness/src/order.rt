@@ -1,12 +1,10 @@
 // Rules of rows that look at one row, or at one and the next.
-use types::FileType;
 use volume::Layout;
 ghost use mathlib.Core.Path.{_≡_};
 ghost use mathlib.Core.Bool.{not};
 ghost use Prim.Native.Nat.{_+_, _<_};
 ghost use lib.ListN.{length};
 ghost use lib.Dec.{eqb, leb, ltb};
-ghost use Rattle.types.specs.Nodes.{kindByte};
 ghost use Rattle.paths.specs.Path.{nameAllowed};
 ghost use Rattle.volume.specs.Search.{pairBefore};
 ghost use Rattle.volume.specs.Volume.{shown};
@@ -21,40 +19,12 @@ const ROOT_ROW: usize = 0;
 // The least index that an entry has.
 const LEAST_INDEX: u64 = 1;
 
-// What an entry's place in the table goes by.
-struct Key {
-    parent: u64,
-    index: u64,
-}
-
-// The number of the node in row i.
-fn node_number(volume: &[u8], layout: Layout, i: usize) -> u64
-    requires { ⌜ Ready (now volume) layout × (i < length (shown (now volume) .nodes)) ⌝ }
-    ensures { λ r. ⌜ r ≡ nodeAt (shown (now (volume .entry)) .nodes) i .node ⌝ }
-{
-    let base = layout.nodes;
-    words::get64(volume, base + types::NODE_ROW * i)
-}
-
-// The parent and the index of the entry in row i.
-fn entry_key(volume: &[u8], layout: Layout, i: usize) -> Key
-    requires { ⌜ Ready (now volume) layout × (i < length (shown (now volume) .entries)) ⌝ }
-    ensures { λ r. ⌜ (r .parent ≡ entryAt (shown (now (volume .entry)) .entries) i .parent) × (r .index ≡ entryAt (shown (now (volume .entry)) .entries) i .index) ⌝ }
-{
-    let base = layout.entries;
-    let at = base + types::ENTRY_ROW * i;
-    Key {
-        parent: volume::entry_parent(volume, at),
-        index: volume::entry_index(volume, at),
-    }
-}
-
 // Whether node row i stands before the next one.
 fn node_ascends(volume: &[u8], layout: Layout, i: usize) -> bool
     requires { ⌜ Ready (now volume) layout × (i + 1 < length (shown (now volume) .nodes)) ⌝ }
     ensures { λ r. ⌜ r ≡ ltb (nodeAt (shown (now (volume .entry)) .nodes) i .node) (nodeAt (shown (now (volume .entry)) .nodes) (i + 1) .node) ⌝ }
 {
-    node_number(volume, layout, i) < node_number(volume, layout, i + 1)
+    tables::node_number(volume, layout, i) < tables::node_number(volume, layout, i + 1)
 }
 
 pub fn nodes_ascend(volume: &[u8], layout: Layout) -> bool
@@ -77,9 +47,12 @@ fn entry_ascends(volume: &[u8], layout: Layout, i: usize) -> bool
     requires { ⌜ Ready (now volume) layout × (i + 1 < length (shown (now volume) .entries)) ⌝ }
     ensures { λ r. ⌜ r ≡ pairBefore (entryAt (shown (now (volume .entry)) .entries) i .parent) (entryAt (shown (now (volume .entry)) .entries) i .index) (entryAt (shown (now (volume .entry)) .entries) (i + 1) .parent) (entryAt (shown (now (volume .entry)) .entries) (i + 1) .index) ⌝ }
 {
-    let here = entry_key(volume, layout, i);
-    let next = entry_key(volume, layout, i + 1);
-    volume::pair_before(here.parent, here.index, next.parent, next.index)
+    volume::pair_before(
+        tables::entry_parent(volume, layout, i),
+        tables::entry_index(volume, layout, i),
+        tables::entry_parent(volume, layout, i + 1),
+        tables::entry_index(volume, layout, i + 1),
+    )
 }
 
 pub fn entries_ascend(volume: &[u8], layout: Layout) -> bool
@@ -127,8 +100,7 @@ fn entry_indexed(volume: &[u8], layout: Layout, i: usize) -> bool
     requires { ⌜ Ready (now volume) layout × (i < length (shown (now volume) .entries)) ⌝ }
     ensures { λ r. ⌜ r ≡ leb 1 (entryAt (shown (now (volume .entry)) .entries) i .index) ⌝ }
 {
-    let key = entry_key(volume, layout, i);
-    LEAST_INDEX <= key.index
+    LEAST_INDEX <= tables::entry_index(volume, layout, i)
 }
 
 pub fn entries_indexed(volume: &[u8], layout: Layout) -> bool
@@ -151,14 +123,7 @@ fn node_below(volume: &[u8], layout: Layout, i: usize, next: u64) -> bool
     requires { ⌜ Ready (now volume) layout × (i < length (shown (now volume) .nodes)) ⌝ }
     ensures { λ r. ⌜ r ≡ ltb (nodeAt (shown (now (volume .entry)) .nodes) i .node) next ⌝ }
 {
-    node_number(volume, layout, i) < next
-}
-
-fn next_node(volume: &[u8], layout: Layout) -> u64
-    requires { ⌜ Ready (now volume) layout ⌝ }
-    ensures { λ r. ⌜ r ≡ shown (now (volume .entry)) .nextNode ⌝ }
-{
-    words::get64(volume, volume::NEXT_NODE)
+    tables::node_number(volume, layout, i) < next
 }
 
 pub fn nodes_below_next(volume: &[u8], layout: Layout) -> bool
@@ -166,7 +131,7 @@ pub fn nodes_below_next(volume: &[u8], layout: Layout) -> bool
     ensures { λ r. ⌜ r ≡ nodesBelow (shown (now (volume .entry)) .nextNode) (shown (now (volume .entry)) .nodes) ⌝ }
 {
     let used = tables::nodes_used(volume, layout);
-    let next = next_node(volume, layout);
+    let next = tables::next_node(volume, layout);
     let mut i = 0;
     while i < used {
         if !node_below(volume, layout, i, next) {
@@ -175,16 +140,6 @@ pub fn nodes_below_next(volume: &[u8], layout: Layout) -> bool
         i += 1;
     }
     true
-}
-
-fn is_directory(kind: FileType) -> bool
-    ensures { λ r. ⌜ r ≡ eqb (kindByte kind) 0 ⌝ }
-{
-    match kind {
-        FileType::Directory => true,
-        FileType::RegularFile => false,
-        FileType::SymbolicLink => false,
-    }
 }
 
 pub fn is_rooted(volume: &[u8], layout: Layout) -> bool
@@ -199,7 +154,7 @@ pub fn is_rooted(volume: &[u8], layout: Layout) -> bool
         return false;
     }
     let kind = root.kind;
-    is_directory(kind)
+    types::is_directory(kind)
 }
 
 // Whether the entry in row i names another node than the root.
@@ -207,9 +162,7 @@ fn entry_unrooted(volume: &[u8], layout: Layout, i: usize) -> bool
     requires { ⌜ Ready (now volume) layout × (i < length (shown (now volume) .entries)) ⌝ }
     ensures { λ r. ⌜ r ≡ not (eqb (entryAt (shown (now (volume .entry)) .entries) i .node) 0) ⌝ }
 {
-    let base = layout.entries;
-    let node = volume::entry_node(volume, base + types::ENTRY_ROW * i);
-    node != ROOT
+    tables::entry_node(volume, layout, i) != ROOT
 }
 
 pub fn root_unnamed(volume: &[u8], layout: Layout) -> bool
@@ -232,9 +185,7 @@ fn entry_allowed(volume: &[u8], layout: Layout, i: usize) -> bool
     requires { ⌜ Ready (now volume) layout × (i < length (shown (now volume) .entries)) ⌝ }
     ensures { λ r. ⌜ r ≡ nameAllowed (entryAt (shown (now (volume .entry)) .entries) i .name) ⌝ }
 {
-    let base = layout.entries;
-    let name = volume::entry_name(volume, base + types::ENTRY_ROW * i);
-    paths::name_allowed(name)
+    paths::name_allowed(tables::entry_name(volume, layout, i))
 }
 
 pub fn names_allowed(volume: &[u8], layout: Layout) -> bool

@@ -5,15 +5,19 @@ use mathlib.Core.List.{List, []}
 use Prim.Native.Nat.{ℕ, _+_, _-_, _*_, _≤_, _<_}
 use native.Mathlib.Omega.{arith}
 use lib.ListN.{length, length-drop}
-use Rattle.words.specs.Bytes.{part, word}
+use Rattle.words.specs.Bytes.{part, word, num}
 use Rattle.words.proofs.Tables.{length-table, table-at}
 use Rattle.types.specs.declared.NodeRecord.{NodeRecord}
 use Rattle.volume.specs.declared.Layout.{Layout}
 use Rattle.volume.specs.declared.ChunkRow.{ChunkRow}
-use Rattle.volume.specs.Rows.{readNode, readEntry, readChunk}
+use Rattle.volume.specs.Rows.{readNode, readEntry, readChunk, layEntry}
 use Rattle.volume.specs.Volume.{shown, atNodes, atEntries, atChunks, atBytes}
-use Rattle.volume.proofs.RowLaws.{node-at}
-use Rattle.tables.specs.Tables.{Ready, nodeAt, chunkAt}
+use Rattle.volume.proofs.RowLaws.{node-at, entry-formed}
+use Rattle.words.proofs.Order.{each-at}
+use Rattle.types.specs.Sizes.{nameRoom}
+use Rattle.volume.specs.Framed.{EntryFits}
+use Rattle.volume.proofs.Laid.{spaced, entry-laid}
+use Rattle.tables.specs.Tables.{Ready, nodeAt, entryAt, chunkAt}
 
 -- what omega needs
 pub record Rooms (l : List ℕ) (y : Layout) : Type 0 where
@@ -79,3 +83,21 @@ module _ (l : List ℕ) where
     -- a node's number, read by itself
     pub node-key : (i : ℕ) {x at : ℕ} → i < length (shown l .nodes) → at ≡ y .nodes + 40 * i → x ≡ word l at → x ≡ nodeAt (shown l .nodes) i .node
     node-key i {x} {at} h e q = q ∙ ap (λ a. a .node) (sym (node-at l at) ∙ node-there i h e refl)
+
+-- ---- an entry's row, by its place
+
+module _ (l : List ℕ) (y : Layout) (r : Ready l y) (i : ℕ) {at : ℕ} (h : i < length (shown l .entries)) (e : at ≡ y .entries + 280 * i) where
+  pub entry-there : readEntry (part l at 280) ≡ entryAt (shown l .entries) i
+  unfolding shown
+  entry-there =
+      ap (λ (k : ℕ). readEntry (part l k 280)) (e ∙ ap (λ (k : ℕ). k + 280 * i) (rooms l y r .entries))
+      ∙ sym (table-at readEntry 280 l (atEntries (word l 8) (word l 24)) (word l 40) i (readEntry []) (omega (arith, count-entries l)))
+
+  -- its name has its place in the row
+  pub name-there : num 4 l (at + 20) ≤ nameRoom
+  name-there =
+      let v = shown l in
+      let f = r .formed .fits in
+      let a : at ≡ atEntries (v .nodeRoom) (v .chunkRoom) + 280 * i = e ∙ ap (λ (z : Layout). z .entries + 280 * i) (r .layout) in
+      let q : part l at 280 ≡ layEntry (entryAt (v .entries) i) = rw a (rw (r .formed .same) at (entry-laid v (spaced v f) i (readEntry []) h)) in
+      omega (arith, entry-formed l at (entryAt (v .entries) i) (each-at EntryFits (v .entries) i (readEntry []) (f .entryRows) h) q .most)

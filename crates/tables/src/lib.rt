@@ -13,7 +13,7 @@ ghost use Rattle.types.specs.Sizes.{mostName};
 ghost use Rattle.volume.specs.Volume.{shown, laid, withNext, withNodes, withEntries, withChunks};
 ghost use Rattle.volume.specs.Search.{entryUnder};
 ghost use Rattle.volume.specs.Sound.{nodeBefore, entryBefore, chunkBefore};
-ghost use Rattle.tables.specs.Tables.{Ready, nodeAt, chunkAt, foundNode, foundChunk, sized, linked, limited};
+ghost use Rattle.tables.specs.Tables.{Ready, nodeAt, entryAt, chunkAt, foundNode, foundChunk, sized, linked, limited};
 
 pub enum Found {
     At(usize),
@@ -47,6 +47,48 @@ pub fn node_row(volume: &[u8], layout: Layout, i: usize) -> NodeRecord
 {
     let base = layout.nodes;
     volume::read_node(volume, base + types::NODE_ROW * i)
+}
+
+// The number of the node in row i, read by itself.
+pub fn node_number(volume: &[u8], layout: Layout, i: usize) -> u64
+    requires { ⌜ Ready (now volume) layout × (i < length (shown (now volume) .nodes)) ⌝ }
+    ensures { λ r. ⌜ r ≡ nodeAt (shown (now (volume .entry)) .nodes) i .node ⌝ }
+{
+    let base = layout.nodes;
+    words::get64(volume, base + types::NODE_ROW * i)
+}
+
+// Fields of the entry in row i. Its name is a part of the volume.
+pub fn entry_parent(volume: &[u8], layout: Layout, i: usize) -> u64
+    requires { ⌜ Ready (now volume) layout × (i < length (shown (now volume) .entries)) ⌝ }
+    ensures { λ r. ⌜ r ≡ entryAt (shown (now (volume .entry)) .entries) i .parent ⌝ }
+{
+    let base = layout.entries;
+    volume::entry_parent(volume, base + types::ENTRY_ROW * i)
+}
+
+pub fn entry_node(volume: &[u8], layout: Layout, i: usize) -> u64
+    requires { ⌜ Ready (now volume) layout × (i < length (shown (now volume) .entries)) ⌝ }
+    ensures { λ r. ⌜ r ≡ entryAt (shown (now (volume .entry)) .entries) i .node ⌝ }
+{
+    let base = layout.entries;
+    volume::entry_node(volume, base + types::ENTRY_ROW * i)
+}
+
+pub fn entry_index(volume: &[u8], layout: Layout, i: usize) -> u64
+    requires { ⌜ Ready (now volume) layout × (i < length (shown (now volume) .entries)) ⌝ }
+    ensures { λ r. ⌜ (r ≡ entryAt (shown (now (volume .entry)) .entries) i .index) × (r < 4294967296) ⌝ }
+{
+    let base = layout.entries;
+    volume::entry_index(volume, base + types::ENTRY_ROW * i)
+}
+
+pub fn entry_name(volume: &[u8], layout: Layout, i: usize) -> &[u8]
+    requires { ⌜ Ready (now volume) layout × (i < length (shown (now volume) .entries)) ⌝ }
+    ensures { λ r. ⌜ now r ≡ entryAt (shown (now (volume .entry)) .entries) i .name ⌝ }
+{
+    let base = layout.entries;
+    volume::entry_name(volume, base + types::ENTRY_ROW * i)
 }
 
 pub fn chunk_row(volume: &[u8], layout: Layout, i: usize) -> ChunkRow
@@ -103,6 +145,13 @@ pub fn find_chunk(volume: &[u8], layout: Layout, node: u64, index: u64) -> Found
         return Found::Nothing;
     }
     Found::At(i)
+}
+
+pub fn next_node(volume: &[u8], layout: Layout) -> u64
+    requires { ⌜ Ready (now volume) layout ⌝ }
+    ensures { λ r. ⌜ r ≡ shown (now (volume .entry)) .nextNode ⌝ }
+{
+    words::get64(volume, volume::NEXT_NODE)
 }
 
 pub fn set_next_node(volume: &mut [u8], layout: Layout, next: u64)

@@ -3,6 +3,7 @@
 use Prim.Native.Nat.{ℕ}
 use lib.Dec.{eqb}
 use Rattle.words.specs.Rule.{pick}
+use Rattle.types.specs.Sizes.{mostSize}
 use Rattle.types.specs.declared.FileType.{FileType}
 use Rattle.types.specs.declared.FileType.the-variants.{Directory, RegularFile, SymbolicLink}
 use Rattle.types.specs.declared.Limit.{Limit}
@@ -28,3 +29,8 @@ limitFlag (AtMost most) = 1
 abbrev pub limitWord : Limit → ℕ
 limitWord Unlimited = 0
 limitWord (AtMost most) = most
+
+-- the row's limit if flagged, else 2^40
+abbrev pub fileLimit : Limit → ℕ
+fileLimit Unlimited = mostSize
+fileLimit (AtMost most) = most

@@ -1,8 +1,9 @@
 // The records and answers that every crate speaks of, and the scope's numbers for them.
 ghost use mathlib.Core.Path.{_≡_};
 ghost use Prim.Native.Nat.{_≤_};
+ghost use lib.Dec.{eqb};
 ghost use Rattle.types.specs.Answers.{errorNumber, number, value};
-ghost use Rattle.types.specs.Nodes.{kindOf, kindByte, limitOf, limitFlag, limitWord};
+ghost use Rattle.types.specs.Nodes.{kindOf, kindByte, limitOf, limitFlag, limitWord, fileLimit};
 
 // Words of the header, and of the allocator before its free pointers.
 pub const HEADER_WORDS: usize = 8;
@@ -182,6 +183,26 @@ pub fn limit_word(limit: Limit) -> u64
 {
     match limit {
         Limit::Unlimited => 0,
+        Limit::AtMost(most) => most,
+    }
+}
+
+pub fn is_directory(kind: FileType) -> bool
+    ensures { λ r. ⌜ r ≡ eqb (kindByte kind) 0 ⌝ }
+{
+    match kind {
+        FileType::Directory => true,
+        FileType::RegularFile => false,
+        FileType::SymbolicLink => false,
+    }
+}
+
+// The most bytes that a file may have.
+pub fn file_limit(limit: Limit) -> u64
+    ensures { λ r. ⌜ r ≡ fileLimit limit ⌝ }
+{
+    match limit {
+        Limit::Unlimited => MOST_SIZE,
         Limit::AtMost(most) => most,
     }
 }

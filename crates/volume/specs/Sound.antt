@@ -10,11 +10,10 @@ use lib.ListN.{length, getD}
 use lib.Dec.{eqb}
 use Rattle.words.specs.Rule.{bit, times, count}
 use Rattle.words.specs.Table.{Each, Asc, find}
-use Rattle.types.specs.Sizes.{mostSize}
+use Rattle.types.specs.Nodes.{fileLimit}
 use Rattle.types.specs.declared.FileType.{FileType}
 use Rattle.types.specs.declared.FileType.the-variants.{Directory, RegularFile, SymbolicLink}
-use Rattle.types.specs.declared.Limit.{Limit}
-use Rattle.types.specs.declared.Limit.the-variants.{Unlimited, AtMost}
+use Rattle.types.specs.declared.Limit.the-variants.{Unlimited}
 use Rattle.types.specs.declared.NodeRecord.{NodeRecord}
 use Rattle.paths.specs.Path.{nameAllowed}
 use Rattle.allocator.specs.Allocator.{free}
@@ -36,11 +35,6 @@ isDirectory (some r) = r .kind ≡ Directory
 abbrev pub isThere : Option NodeRecord → Type 0
 isThere none = ⊥
 isThere (some r) = Unit {0}
-
--- the row's limit if flagged, else 2^40
-abbrev pub fileLimit : Limit → ℕ
-fileLimit Unlimited = mostSize
-fileLimit (AtMost most) = most
 
 -- ---- counts
 
