@@ -2,11 +2,13 @@
 -- Assumes nothing.
 use mathlib.Core.Path.{_≡_}
 use Prim.Native.Nat.{ℕ, _+_, _-_, _*_, _/_, _%_, _^_, _≤_, _<_}
+use mathlib.Core.Bool.{Bool}
 use mathlib.Core.List.{List}
 use lib.ListN.{length}
-use lib.Dec.{eqb}
+use lib.Dec.{eqb, leb}
 use Rattle.words.specs.Bytes.{word, over, spell}
-use Rattle.words.specs.Rule.{pick}
+use Rattle.words.specs.Rule.{pick, both}
+use Rattle.allocator.specs.Sizes.{acceptedSize}
 use Rattle.allocator.specs.Allocator.{marker}
 use Rattle.allocator.specs.declared.Popped.{Popped}
 use Rattle.allocator.specs.declared.Popped.the-variants.{Pointer, Nothing}
@@ -27,3 +29,7 @@ lastFree l = pick (eqb (word l 16) 0) Nothing (Pointer (word l (128 + 8 * (word 
 
 unfoldable pub withoutLast : List ℕ → List ℕ
 withoutLast l = pick (eqb (word l 16) 0) l (over l 16 (spell 8 (word l 16 - 1)))
+
+-- the whole marker, an accepted size, and no more free pointers than words behind the first sixteen
+unfoldable pub wellMarked : List ℕ → Bool
+wellMarked l = both (eqb (word l 0) marker) (both (acceptedSize (word l 8)) (leb (word l 16) (length l / 8 - 16)))

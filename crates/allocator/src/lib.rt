@@ -12,7 +12,7 @@ ghost use lib.ListN.{length};
 ghost use Rattle.words.specs.Bytes.{word, over, spell};
 ghost use Rattle.allocator.specs.Sizes.{acceptedSize};
 ghost use Rattle.allocator.specs.Allocator.{readAllocator, layAllocator, allocate, release, setChunkSize};
-ghost use Rattle.allocator.specs.Words.{Formed, Takable, lastFree, withoutLast};
+ghost use Rattle.allocator.specs.Words.{Formed, Takable, lastFree, withoutLast, wellMarked};
 
 // Word 0: `FSA1` and four zero bytes.
 pub const MARKER: u64 = 826364742;
@@ -50,7 +50,7 @@ pub fn chunk_size(words: &[u8]) -> u64
     words::get64(words, CHUNK_SIZE)
 }
 
-fn get_len(words: &[u8]) -> u64
+pub fn get_len(words: &[u8]) -> u64
     requires { ⌜ 128 ≤ length (now words) ⌝ }
     ensures { λ r. ⌜ r ≡ word (now (words .entry)) 16 ⌝ }
 {
@@ -133,4 +133,26 @@ pub fn set_chunk_size(words: &mut [u8], size: u64) -> Answer
     }
     words::put64(words, CHUNK_SIZE, size);
     Answer::Done(0)
+}
+
+// Word 3: the pointers given out lie below it.
+pub fn max_ptr(words: &[u8]) -> u64
+    requires { ⌜ 128 ≤ length (now words) ⌝ }
+    ensures { λ r. ⌜ r ≡ word (now (words .entry)) 24 ⌝ }
+{
+    words::get64(words, MAX_PTR)
+}
+
+// Whether words have the whole marker, an accepted size, and no more free pointers than room for them.
+pub fn is_marked(words: &[u8]) -> bool
+    requires { ⌜ 128 ≤ length (now words) ⌝ }
+    ensures { λ r. ⌜ r ≡ wellMarked (now (words .entry)) ⌝ }
+{
+    if words::get64(words, 0) != MARKER {
+        return false;
+    }
+    if !accepted(chunk_size(words)) {
+        return false;
+    }
+    get_len(words) <= (words.len() / types::WORD - types::ALLOCATOR_WORDS) as u64
 }
