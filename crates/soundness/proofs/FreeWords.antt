@@ -21,22 +21,10 @@ use Rattle.allocator.proofs.Laid.{first-word}
 use Rattle.volume.specs.declared.Layout.{Layout}
 use Rattle.volume.specs.Volume.{shown}
 use Rattle.tables.specs.Tables.{Ready}
-use Rattle.tables.proofs.Rooms.{rooms}
+use Rattle.tables.proofs.Lent.{wordsIn, words-long}
 use Rattle.soundness.specs.Pointers.{freeLined, freeStanding}
 
 module _ (l : List ℕ) (y : Layout) (r : Ready l y) where
-  -- the allocator's words
-  abbrev pub wordsIn : List ℕ
-  wordsIn = part l 64 (128 + 8 * word l 24)
-
-  pub words-long : length wordsIn ≡ 128 + 8 * word l 24
-  words-long = length-part l 64 (128 + 8 * word l 24) (omega (arith, rooms l y r))
-
-  -- the part that is lent of the volume
-  pub words-lent : take (y .nodes - 64) (drop 64 l) ≡ wordsIn
-  unfolding part
-  words-lent = let e : y .nodes - 64 ≡ 128 + 8 * word l 24 = omega (arith, rooms l y r) in rw e
-
   count-told : shown l .allocator .freeCount ≡ word l 80
   unfolding shown readAllocator
   count-told = num-part 8 l 64 (128 + 8 * word l 24) 16 (omega arith)
@@ -45,8 +33,8 @@ module _ (l : List ℕ) (y : Layout) (r : Ready l y) where
   unfolding shown
   count-fits = omega (arith, r .formed .fits .free, count-told)
 
-  pub count-room : 128 + 8 * word l 80 ≤ length wordsIn
-  count-room = omega (arith, words-long, count-fits)
+  pub count-room : 128 + 8 * word l 80 ≤ length (wordsIn l y r)
+  count-room = omega (arith, words-long l y r, count-fits)
 
   rows-of-words : length (shown l .allocator .words) ≡ word l 24
   rows-of-words = unfold shown in r .formed .fits .words
@@ -55,21 +43,21 @@ module _ (l : List ℕ) (y : Layout) (r : Ready l y) where
   unfolding free
   free-length = length-take-le (shown l .allocator .freeCount) (shown l .allocator .words) (omega (arith, count-told, count-fits, rows-of-words)) ∙ count-told
 
-  free-at : (i : ℕ) → i < word l 80 → getD (free (shown l .allocator)) i 0 ≡ freeWord wordsIn i
+  free-at : (i : ℕ) → i < word l 80 → getD (free (shown l .allocator)) i 0 ≡ freeWord (wordsIn l y r) i
   unfolding free freeWord shown readAllocator
   free-at i h =
       getD-take (shown l .allocator .freeCount) (shown l .allocator .words) i 0 (omega (arith, count-told))
-      ∙ table-at readWord 8 wordsIn 128 (length wordsIn / 8 - 16) i 0 (omega (arith, words-long, count-fits)) ∙ first-word wordsIn (128 + 8 * i)
+      ∙ table-at readWord 8 (wordsIn l y r) 128 (length (wordsIn l y r) / 8 - 16) i 0 (omega (arith, words-long l y r, count-fits)) ∙ first-word (wordsIn l y r) (128 + 8 * i)
 
-  pub free-stands : (p : ℕ) {count x : ℕ} → count ≡ word l 80 → x ≡ tally count (λ i. eqb (freeWord wordsIn i) p) → x ≡ freeStanding (free (shown l .allocator)) p
+  pub free-stands : (p : ℕ) {count x : ℕ} → count ≡ word l 80 → x ≡ tally count (λ i. eqb (freeWord (wordsIn l y r) i) p) → x ≡ freeStanding (free (shown l .allocator)) p
   unfolding freeStanding
   free-stands p e q =
-      q ∙ rw (e, free-length) (tally-same (λ i. eqb (freeWord wordsIn i) p) (λ i. eqb (getD (free (shown l .allocator)) i 0) p) (word l 80) (λ i h. ap (λ (k : ℕ). eqb k p) (sym (free-at i h))))
+      q ∙ rw (e, free-length) (tally-same (λ i. eqb (freeWord (wordsIn l y r) i) p) (λ i. eqb (getD (free (shown l .allocator)) i 0) p) (word l 80) (λ i h. ap (λ (k : ℕ). eqb k p) (sym (free-at i h))))
 
-  pub free-lines : (s next : ℕ) {count : ℕ} {b : Bool} → count ≡ word l 80 → b ≡ upto count (λ i. lined s next (freeWord wordsIn i)) → b ≡ freeLined s next (free (shown l .allocator))
+  pub free-lines : (s next : ℕ) {count : ℕ} {b : Bool} → count ≡ word l 80 → b ≡ upto count (λ i. lined s next (freeWord (wordsIn l y r) i)) → b ≡ freeLined s next (free (shown l .allocator))
   unfolding freeLined
   free-lines s next e q =
-      q ∙ rw (e, free-length) (upto-same (λ i. lined s next (freeWord wordsIn i)) (λ i. lined s next (getD (free (shown l .allocator)) i 0)) (word l 80) (λ i h. ap (lined s next) (sym (free-at i h))))
+      q ∙ rw (e, free-length) (upto-same (λ i. lined s next (freeWord (wordsIn l y r) i)) (λ i. lined s next (getD (free (shown l .allocator)) i 0)) (word l 80) (λ i h. ap (lined s next) (sym (free-at i h))))
 
 -- a multiple that the loop looks at lies below word 3
 pub turn-fits : (q s next : ℕ) → 0 < s → q < next / s → q * s + s ≤ next

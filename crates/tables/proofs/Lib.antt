@@ -1,3 +1,4 @@
 pub mod Rooms
+pub mod Lent
 pub mod Finds
 pub mod Changes

@@ -1,5 +1,13 @@
 // The three tables of a volume that is laid out: rows found, put in, taken out and changed. Used counts in the header move with them.
 // Each function says what it makes of the table as a list of rows, and that all else stays.
+mod pointers;
+
+pub use pointers::allocate;
+pub use pointers::chunk_size;
+pub use pointers::free;
+pub use pointers::free_count;
+pub use pointers::max_ptr;
+pub use pointers::set_chunk_size;
 use types::Limit;
 use types::NodeRecord;
 use volume::ChunkRow;
