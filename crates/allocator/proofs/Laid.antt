@@ -12,7 +12,7 @@ use Rattle.words.specs.Table.{table, layWords, Each}
 use Rattle.words.proofs.Numbers.{num-below, num-part, spell-num, length-spell, value-spell}
 use Rattle.words.proofs.Order.{each-map, each-left, each-right, set-append-add}
 use Rattle.words.proofs.Tables.{each-table, lay-table, table-lay, length-table, length-layAll, layAll-append, table-add, set-lay, num-words}
-use Rattle.allocator.specs.Allocator.{Allocator, withSize, withCount, withNext, withWords, wordsOf, layAllocator, readAllocator, readWord, marker}
+use Rattle.allocator.specs.Allocator.{Allocator, withSize, withCount, withNext, withWords, wordsOf, layAllocator, readAllocator, readWord}
 use Rattle.allocator.specs.Words.{Formed}
 
 -- ---- what is read is laid out again
@@ -29,8 +29,7 @@ words-of : (l : List ℕ) → Formed l → wordsOf (readAllocator l) ≡ table r
 unfolding wordsOf readAllocator table
 words-of l f =
     let e : length l / 8 ≡ 16 + (length l / 8 - 16) = omega (arith, f .least) in
-    let h : readWord (part l 0 8) ≡ marker = first-word l 0 ∙ f .mark in
-    sym (ap (table readWord 8 l 0) e ∙ table-add readWord 8 l 0 16 (length l / 8 - 16) ∙ rw (h, first-word l 8, first-word l 16, first-word l 24))
+    sym (ap (table readWord 8 l 0) e ∙ table-add readWord 8 l 0 16 (length l / 8 - 16) ∙ rw (first-word l 0, first-word l 8, first-word l 16, first-word l 24))
 
 pub laid-again : (l : List ℕ) → Bytes l → Formed l → layAllocator (readAllocator l) ≡ l
 unfolding layAllocator
@@ -55,7 +54,7 @@ words-back ws h = each-map (λ w. w < 2 ^ 64) (λ w. readWord (spell 8 w) ≡ w)
 -- ---- the words of an allocator that fits
 
 abbrev heads : Allocator → List ℕ
-heads a = marker ∷ a .chunkSize ∷ a .freeCount ∷ a .nextPtr ∷ []
+heads a = a .mark ∷ a .chunkSize ∷ a .freeCount ∷ a .nextPtr ∷ []
 
 -- its first sixteen words
 abbrev front : Allocator → List ℕ
@@ -103,6 +102,10 @@ module _ (a : Allocator) (f : Fits a) where
   word-laid k h = simp append-nil at (num-words (wordsOf a) [] k (f .small) (omega (arith, length-words a (f .twelve))))
 
   -- the fields
+  pub word-mark : word (layAllocator a) 0 ≡ a .mark
+  unfolding wordsOf
+  word-mark = word-laid 0 (omega arith)
+
   pub word-size : word (layAllocator a) 8 ≡ a .chunkSize
   unfolding wordsOf
   word-size = word-laid 1 (omega arith)
@@ -114,10 +117,6 @@ module _ (a : Allocator) (f : Fits a) where
   pub word-next : word (layAllocator a) 24 ≡ a .nextPtr
   unfolding wordsOf
   word-next = word-laid 3 (omega arith)
-
-  pub word-mark : word (layAllocator a) 0 ≡ marker
-  unfolding wordsOf
-  word-mark = word-laid 0 (omega arith)
 
   pub word-free : (k : ℕ) → k < length (a .words) → word (layAllocator a) (128 + 8 * k) ≡ getD (a .words) k 0
   unfolding wordsOf
@@ -152,7 +151,7 @@ module _ (a : Allocator) (f : Fits a) where
   -- what is laid out is read back
   pub read-laid : readAllocator (layAllocator a) ≡ a
   unfolding readAllocator
-  read-laid = λ i. record { chunkSize = word-size i; freeCount = word-count i; nextPtr = word-next i; unread = unread-laid i; words = words-laid i }
+  read-laid = λ i. record { mark = word-mark i; chunkSize = word-size i; freeCount = word-count i; nextPtr = word-next i; unread = unread-laid i; words = words-laid i }
 
 -- ---- what is read fits
 

@@ -12,7 +12,9 @@ use Rattle.types.specs.declared.Answer.the-variants.{Done, Refused}
 use Rattle.types.specs.declared.Error.the-variants.{InvalidArgument}
 use Rattle.allocator.specs.Sizes.{acceptedSize}
 
+-- words 0 to 3, the twelve that nothing reads, and those for free pointers
 pub record Allocator : Type 0 where
+  pub mark : ℕ
   pub chunkSize : ℕ
   pub freeCount : ℕ
   pub nextPtr : ℕ
@@ -28,7 +30,7 @@ abbrev pub marker : ℕ
 marker = 826364742
 
 unfoldable pub wordsOf : Allocator → List ℕ
-wordsOf a = marker ∷ a .chunkSize ∷ a .freeCount ∷ a .nextPtr ∷ (a .unread ++ a .words)
+wordsOf a = a .mark ∷ a .chunkSize ∷ a .freeCount ∷ a .nextPtr ∷ (a .unread ++ a .words)
 
 unfoldable pub layAllocator : Allocator → List ℕ
 layAllocator a = layWords (wordsOf a)
@@ -38,6 +40,7 @@ readWord b = word b 0
 
 unfoldable pub readAllocator : List ℕ → Allocator
 readAllocator l = record {
+  mark = word l 0;
   chunkSize = word l 8;
   freeCount = word l 16;
   nextPtr = word l 24;
@@ -48,16 +51,16 @@ readAllocator l = record {
 -- ---- one field changed
 
 abbrev pub withSize : ℕ → Allocator → Allocator
-withSize s a = record { chunkSize = s; freeCount = a .freeCount; nextPtr = a .nextPtr; unread = a .unread; words = a .words }
+withSize s a = record { mark = a .mark; chunkSize = s; freeCount = a .freeCount; nextPtr = a .nextPtr; unread = a .unread; words = a .words }
 
 abbrev pub withCount : ℕ → Allocator → Allocator
-withCount n a = record { chunkSize = a .chunkSize; freeCount = n; nextPtr = a .nextPtr; unread = a .unread; words = a .words }
+withCount n a = record { mark = a .mark; chunkSize = a .chunkSize; freeCount = n; nextPtr = a .nextPtr; unread = a .unread; words = a .words }
 
 abbrev pub withNext : ℕ → Allocator → Allocator
-withNext p a = record { chunkSize = a .chunkSize; freeCount = a .freeCount; nextPtr = p; unread = a .unread; words = a .words }
+withNext p a = record { mark = a .mark; chunkSize = a .chunkSize; freeCount = a .freeCount; nextPtr = p; unread = a .unread; words = a .words }
 
 abbrev pub withWords : List ℕ → Allocator → Allocator
-withWords ws a = record { chunkSize = a .chunkSize; freeCount = a .freeCount; nextPtr = a .nextPtr; unread = a .unread; words = ws }
+withWords ws a = record { mark = a .mark; chunkSize = a .chunkSize; freeCount = a .freeCount; nextPtr = a .nextPtr; unread = a .unread; words = ws }
 
 -- ---- the calls
 

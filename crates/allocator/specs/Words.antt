@@ -13,11 +13,10 @@ use Rattle.allocator.specs.Allocator.{marker}
 use Rattle.allocator.specs.declared.Popped.{Popped}
 use Rattle.allocator.specs.declared.Popped.the-variants.{Pointer, Nothing}
 
--- whole words, at least sixteen, under the marker, and no more free pointers than words for them
+-- whole words, at least sixteen, and no more free pointers than words for them
 pub record Formed (l : List ℕ) : Type 0 where
   pub least : 128 ≤ length l
   pub whole : length l % 8 ≡ 0
-  pub mark : word l 0 ≡ marker
   pub count : 128 + 8 * word l 16 ≤ length l
 
 -- a free pointer, or a next new one that is a number

@@ -1,6 +1,6 @@
 -- Laws of the tests before a call: what passes them is what the call's contract asks for.
 -- Assumes nothing.
-use mathlib.Core.Path.{_≡_, sym, _∙_}
+use mathlib.Core.Path.{_≡_}
 use mathlib.Core.Bool.{true}
 use mathlib.Core.List.{List}
 use Prim.Native.Nat.{ℕ, _+_, _-_, _*_, _%_, _≤_, _<_}
@@ -9,15 +9,13 @@ use borrow.Author.Tests.{leb-true}
 use lib.Dec.{leb}
 use lib.ListN.{length}
 use Rattle.words.specs.Bytes.{word}
-use Rattle.allocator.specs.Allocator.{marker}
 use Rattle.allocator.specs.Words.{Formed, Takable}
 
 module _ (l : List ℕ) where
-  pub formed-of : {mark : ℕ} (count room : ℕ) → 128 ≤ length l → length l % 8 ≡ 0 → mark ≡ word l 0 → mark ≡ marker → count ≡ word l 16 → 128 + 8 * room ≤ length l → leb count room ≡ true → Formed l
-  formed-of count room least whole read mark counted held fits = record {
+  pub formed-of : (count room : ℕ) → 128 ≤ length l → length l % 8 ≡ 0 → count ≡ word l 16 → 128 + 8 * room ≤ length l → leb count room ≡ true → Formed l
+  formed-of count room least whole counted held fits = record {
     least = least;
     whole = whole;
-    mark = sym read ∙ mark;
     count = omega (arith, leb-true count room fits);
   }
 

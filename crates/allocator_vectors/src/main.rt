@@ -24,9 +24,6 @@ const MOST_WORDS: usize = 24;
 
 const MOST_BYTES: usize = types::WORD * MOST_WORDS;
 
-// `FSA1` and four zero bytes.
-const MARKER: u64 = 826364742;
-
 // Where words start, in bytes.
 const FREE_COUNT: usize = 16;
 
@@ -312,9 +309,6 @@ fn formed(words: &[u8]) -> bool
         return false;
     }
     if words.len() % types::WORD != 0 {
-        return false;
-    }
-    if words::get64(words, 0) != MARKER {
         return false;
     }
     words::get64(words, FREE_COUNT) <= free_room(words)

@@ -4,18 +4,20 @@ use mathlib.Core.Path.{_≡_, refl, ap, _∙_}
 use mathlib.Core.Bool.{Bool, true, false, false≢true}
 use mathlib.Core.Logic.{_⊎_, inl, inr}
 use mathlib.Core.List.{List}
-use Prim.Native.Nat.{ℕ, zero, suc, _+_, _-_, _*_, _≤_, _<_}
+use Prim.Native.Nat.{ℕ, zero, suc, _+_, _-_, _*_, _/_, _≤_, _<_}
 use native.Mathlib.Omega.{arith}
 use lib.Dec.{eqb, leb}
 use lib.ListN.{length, take, drop}
 use Rattle.words.specs.Bytes.{word, num, part, zeros}
 use Rattle.words.specs.Rule.{pick, both, upto, allZero}
 use Rattle.words.proofs.Parts.{length-part}
+use Rattle.words.proofs.Numbers.{num-part}
 use Rattle.words.proofs.Rules.{Says, holds, fails, says-map, says-both, says-and, says-upto, says-eqb, says-leb, says-true, true-says, go-on}
 use Rattle.words.proofs.Blocks.{says-zero}
 use Rattle.types.specs.Sizes.{mostSize, mostName, nameRoom}
 use Rattle.allocator.specs.Sizes.{acceptedSize}
 use Rattle.allocator.specs.Allocator.{marker}
+use Rattle.allocator.specs.Words.{wellMarked}
 use Rattle.volume.specs.Volume.{form, atNodes, atEntries, atChunks}
 use denote.Enum.Declared.{tagOf}
 use Rattle.volume.specs.declared.Place.{Place}
@@ -155,3 +157,12 @@ module _ (l : List ℕ) {y : Layout} (k : y ≡ layoutOf (word l 8) (word l 16) 
 
   pub chunks-at : {r : Bool} → used ≡ word l 48 → room ≡ word l 24 → r ≡ rowsFormed (λ _. true) 24 l (y .chunks) used room → r ≡ rowsFormed (λ _. true) 24 l (atChunks (word l 8) (word l 16) (word l 24)) (word l 48) (word l 24)
   chunks-at p q e = e ∙ rw (k, p, q)
+
+-- the allocator's words, lent as a part of the volume
+pub marked-lent : (l : List ℕ) → Headed l → {size : ℕ} {r : Bool} → size ≡ 128 + 8 * word l 24 → r ≡ wellMarked (take (64 + size - 64) (drop 64 l)) → r ≡ marked l
+unfolding marked wellMarked part
+marked-lent l h {size} e q =
+    let k : 64 + size - 64 ≡ 128 + 8 * word l 24 = omega arith in
+    let w : List ℕ = part l 64 (128 + 8 * word l 24) in
+    let n : length w / 8 - 16 ≡ word l 24 = rw (length-part l 64 (128 + 8 * word l 24) (omega (arith, h .placed .long))) (omega arith) in
+    q ∙ rw (k, num-part 8 l 64 (128 + 8 * word l 24) 0 (omega arith), num-part 8 l 64 (128 + 8 * word l 24) 8 (omega arith), num-part 8 l 64 (128 + 8 * word l 24) 16 (omega arith), n)

@@ -25,7 +25,7 @@ use Rattle.tables.proofs.Lent.{wordsIn, words-long}
 use Rattle.soundness.specs.Pointers.{freeLined, freeStanding}
 
 module _ (l : List ℕ) (y : Layout) (r : Ready l y) where
-  count-told : shown l .allocator .freeCount ≡ word l 80
+  pub count-told : shown l .allocator .freeCount ≡ word l 80
   unfolding shown readAllocator
   count-told = num-part 8 l 64 (128 + 8 * word l 24) 16 (omega arith)
 

@@ -11,12 +11,10 @@ ghost use Rattle.soundness.specs.Frame.{headed, marked, limitFormed, nod
 // The header's bytes.
 const HEADER: usize = 64;
 
-// The allocator's words, from the start of the volume.
-const MARK: usize = 64;
+// Where the allocator's words start, and what stands before its free pointers.
+const ALLOCATOR: usize = HEADER;
 
-const CHUNK_SIZE: usize = 72;
-
-const FREE_COUNT: usize = 80;
+const ALLOCATOR_HEAD: usize = types::WORD * types::ALLOCATOR_WORDS;
 
 // Within a node's row.
 const KIND: usize = 8;
@@ -71,13 +69,9 @@ fn is_marked(volume: &[u8]) -> bool
     requires { ⌜ Headed (now volume) ⌝ }
     ensures { λ r. ⌜ r ≡ marked (now (volume .entry)) ⌝ }
 {
-    if words::get64(volume, MARK) != allocator::MARKER {
-        return false;
-    }
-    if !allocator::accepted(words::get64(volume, CHUNK_SIZE)) {
-        return false;
-    }
-    words::get64(volume, FREE_COUNT) <= words::get64(volume, volume::CHUNK_ROOM)
+    let chunks = words::get64(volume, volume::CHUNK_ROOM) as usize;
+    let size = ALLOCATOR_HEAD + types::WORD * chunks;
+    allocator::is_marked(&volume[ALLOCATOR..ALLOCATOR + size])
 }
 
 fn limit_formed(flag: u64, limit: u64) -> bool

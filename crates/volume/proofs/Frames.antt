@@ -10,13 +10,13 @@ use Rattle.words.specs.Table.{Each}
 use Rattle.words.proofs.Order.{each-at}
 use Rattle.types.specs.declared.NodeRecord.{NodeRecord}
 use Rattle.allocator.specs.Sizes.{acceptedSize}
-use Rattle.allocator.specs.Allocator.{Allocator}
+use Rattle.allocator.specs.Allocator.{Allocator, marker}
 use Rattle.volume.specs.declared.ChunkRow.{ChunkRow}
 use Rattle.volume.specs.Rows.{Entry, readNode, readEntry}
-use Rattle.volume.specs.Volume.{Volume, laid, shown, atNodes, atEntries, atChunks, withNext, withAllocator, withNodes, withEntries, withChunks, withBytes}
-use Rattle.volume.specs.Framed.{NodeFormed, EntryFormed, RowsFormed, Framed, NodeFits, EntryFits, ChunkFits, Fits, Formed}
+use Rattle.volume.specs.Volume.{Volume, laid, shown, atNodes, atEntries, atChunks, atBytes, withNext, withAllocator, withNodes, withEntries, withChunks, withBytes}
+use Rattle.volume.specs.Framed.{Placed, NodeFormed, EntryFormed, RowsFormed, Framed, NodeFits, EntryFits, ChunkFits, Fits, Formed}
 use Rattle.volume.proofs.RowLaws.{node-formed, entry-formed}
-use Rattle.volume.proofs.Laid.{Spaced, spaced, Told, told-laid, node-laid, entry-laid, nodes-unused, entries-unused, chunks-unused, shown-laid}
+use Rattle.volume.proofs.Laid.{Spaced, spaced, Told, told-laid, allocator-fits, node-laid, entry-laid, nodes-unused, entries-unused, chunks-unused, shown-laid}
 use Rattle.allocator.proofs.Laid as AllocatorLaid
 
 module _ (v : Volume) (f : Fits v) where
@@ -94,111 +94,64 @@ module _ (v : Volume) (f : Spaced v) where
 
 -- ---- one table changed: the volume still fits
 
+-- an allocator that fits a volume with so many chunks
+record AllocatorFits (c : ℕ) (a : Allocator) : Type 0 where
+  mark : a .mark ≡ marker
+  laid : AllocatorLaid.Fits a
+  words : length (a .words) ≡ c
+  size : acceptedSize (a .chunkSize) ≡ true
+  free : a .freeCount ≤ c
+
+-- a table that fits its room
+abbrev TableFits : {Row : Type 0} → (Row → Type 0) → ℕ → List Row → Type 0
+TableFits RowFits room rs = (length rs ≤ room) × Each RowFits rs
+
+-- a volume fits, part by part
+fits-parts : (v : Volume) → Placed (v .nodeRoom) (v .entryRoom) (v .chunkRoom) (atBytes (v .nodeRoom) (v .entryRoom) (v .chunkRoom) + length (v .bytes)) → v .nextNode < 2 ^ 64 → AllocatorFits (v .chunkRoom) (v .allocator)
+    → TableFits NodeFits (v .nodeRoom) (v .nodes) → TableFits EntryFits (v .entryRoom) (v .entries) → TableFits ChunkFits (v .chunkRoom) (v .chunks) → Fits v
+fits-parts v p h a ns es cs = record {
+  placed = p;
+  nextNode = h;
+  nodes = ns .0;
+  entries = es .0;
+  chunks = cs .0;
+  mark = a .mark;
+  twelve = a .laid .twelve;
+  words = a .words;
+  small = a .laid .small;
+  size = a .size;
+  free = a .free;
+  nodeRows = ns .1;
+  entryRows = es .1;
+  chunkRows = cs .1;
+}
+
 module _ (v : Volume) (f : Fits v) where
+  -- its allocator
+  kept : AllocatorFits (v .chunkRoom) (v .allocator)
+  kept = record { mark = f .mark; laid = allocator-fits v f; words = f .words; size = f .size; free = f .free }
+
   -- another next node
   pub fits-next : (x : ℕ) → x < 2 ^ 64 → Fits (withNext x v)
-  fits-next x h = record {
-    placed = f .placed;
-    nextNode = h;
-    nodes = f .nodes;
-    entries = f .entries;
-    chunks = f .chunks;
-    twelve = f .twelve;
-    words = f .words;
-    small = f .small;
-    size = f .size;
-    free = f .free;
-    nodeRows = f .nodeRows;
-    entryRows = f .entryRows;
-    chunkRows = f .chunkRows;
-  }
+  fits-next x h = fits-parts (withNext x v) (f .placed) h kept (f .nodes, f .nodeRows) (f .entries, f .entryRows) (f .chunks, f .chunkRows)
 
   -- another allocator
-  pub fits-allocator : (a : Allocator) → AllocatorLaid.Fits a → length (a .words) ≡ v .chunkRoom → acceptedSize (a .chunkSize) ≡ true → a .freeCount ≤ v .chunkRoom → Fits (withAllocator a v)
-  fits-allocator a g w s c = record {
-    placed = f .placed;
-    nextNode = f .nextNode;
-    nodes = f .nodes;
-    entries = f .entries;
-    chunks = f .chunks;
-    twelve = g .twelve;
-    words = w;
-    small = g .small;
-    size = s;
-    free = c;
-    nodeRows = f .nodeRows;
-    entryRows = f .entryRows;
-    chunkRows = f .chunkRows;
-  }
+  pub fits-allocator : (a : Allocator) → a .mark ≡ marker → AllocatorLaid.Fits a → length (a .words) ≡ v .chunkRoom → acceptedSize (a .chunkSize) ≡ true → a .freeCount ≤ v .chunkRoom → Fits (withAllocator a v)
+  fits-allocator a m g w s c =
+      fits-parts (withAllocator a v) (f .placed) (f .nextNode) (record { mark = m; laid = g; words = w; size = s; free = c }) (f .nodes, f .nodeRows) (f .entries, f .entryRows) (f .chunks, f .chunkRows)
 
   -- other nodes
   pub fits-nodes : (rs : List NodeRecord) → length rs ≤ v .nodeRoom → Each NodeFits rs → Fits (withNodes rs v)
-  fits-nodes rs h g = record {
-    placed = f .placed;
-    nextNode = f .nextNode;
-    nodes = h;
-    entries = f .entries;
-    chunks = f .chunks;
-    twelve = f .twelve;
-    words = f .words;
-    small = f .small;
-    size = f .size;
-    free = f .free;
-    nodeRows = g;
-    entryRows = f .entryRows;
-    chunkRows = f .chunkRows;
-  }
+  fits-nodes rs h g = fits-parts (withNodes rs v) (f .placed) (f .nextNode) kept (h, g) (f .entries, f .entryRows) (f .chunks, f .chunkRows)
 
   -- other entries
   pub fits-entries : (rs : List Entry) → length rs ≤ v .entryRoom → Each EntryFits rs → Fits (withEntries rs v)
-  fits-entries rs h g = record {
-    placed = f .placed;
-    nextNode = f .nextNode;
-    nodes = f .nodes;
-    entries = h;
-    chunks = f .chunks;
-    twelve = f .twelve;
-    words = f .words;
-    small = f .small;
-    size = f .size;
-    free = f .free;
-    nodeRows = f .nodeRows;
-    entryRows = g;
-    chunkRows = f .chunkRows;
-  }
+  fits-entries rs h g = fits-parts (withEntries rs v) (f .placed) (f .nextNode) kept (f .nodes, f .nodeRows) (h, g) (f .chunks, f .chunkRows)
 
   -- other chunks
   pub fits-chunks : (rs : List ChunkRow) → length rs ≤ v .chunkRoom → Each ChunkFits rs → Fits (withChunks rs v)
-  fits-chunks rs h g = record {
-    placed = f .placed;
-    nextNode = f .nextNode;
-    nodes = f .nodes;
-    entries = f .entries;
-    chunks = h;
-    twelve = f .twelve;
-    words = f .words;
-    small = f .small;
-    size = f .size;
-    free = f .free;
-    nodeRows = f .nodeRows;
-    entryRows = f .entryRows;
-    chunkRows = g;
-  }
+  fits-chunks rs h g = fits-parts (withChunks rs v) (f .placed) (f .nextNode) kept (f .nodes, f .nodeRows) (f .entries, f .entryRows) (h, g)
 
   -- other bytes, as many
   pub fits-bytes : (bs : List ℕ) → length bs ≡ length (v .bytes) → Fits (withBytes bs v)
-  fits-bytes bs e = record {
-    placed = rw e (f .placed);
-    nextNode = f .nextNode;
-    nodes = f .nodes;
-    entries = f .entries;
-    chunks = f .chunks;
-    twelve = f .twelve;
-    words = f .words;
-    small = f .small;
-    size = f .size;
-    free = f .free;
-    nodeRows = f .nodeRows;
-    entryRows = f .entryRows;
-    chunkRows = f .chunkRows;
-  }
+  fits-bytes bs e = fits-parts (withBytes bs v) (rw e (f .placed)) (f .nextNode) kept (f .nodes, f .nodeRows) (f .entries, f .entryRows) (f .chunks, f .chunkRows)

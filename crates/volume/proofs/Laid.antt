@@ -182,7 +182,7 @@ module _ (v : Volume) (f : Fits v) where
     entries = head-laid 5 (omega arith);
     chunks = head-laid 6 (omega arith);
     nextNode = head-laid 7 (omega arith);
-    mark = allocator-word 0 (omega arith) ∙ AllocatorLaid.word-mark (v .allocator) allocator-fits;
+    mark = allocator-word 0 (omega arith) ∙ AllocatorLaid.word-mark (v .allocator) allocator-fits ∙ f .mark;
     chunkSize = allocator-word 8 (omega arith) ∙ AllocatorLaid.word-size (v .allocator) allocator-fits;
     freeCount = allocator-word 16 (omega arith) ∙ AllocatorLaid.word-count (v .allocator) allocator-fits;
     nextPtr = allocator-word 24 (omega arith) ∙ AllocatorLaid.word-next (v .allocator) allocator-fits;
@@ -239,9 +239,8 @@ allocator-formed l f =
     let c = word l 24 in
     let h = f .headed in
     let n : length (part l 64 (128 + 8 * c)) ≡ 128 + 8 * c = length-part l 64 (128 + 8 * c) (omega (arith, h .placed .long)) in
-    let m : word (part l 64 (128 + 8 * c)) 0 ≡ word l 64 = num-part 8 l 64 (128 + 8 * c) 0 (omega arith) in
     let k : word (part l 64 (128 + 8 * c)) 16 ≡ word l 80 = num-part 8 l 64 (128 + 8 * c) 16 (omega arith) in
-    record { least = rw n (omega arith); whole = rw n (omega arith); mark = m ∙ f .marked .mark; count = rw (n, k) (omega (arith, f .marked .free)) }
+    record { least = rw n (omega arith); whole = rw n (omega arith); count = rw (n, k) (omega (arith, f .marked .free)) }
 
 module _ (l : List ℕ) (y : Bytes l) (f : Framed l) where
   abbrev N : ℕ
@@ -316,6 +315,7 @@ module _ (l : List ℕ) (y : Bytes l) (f : Framed l) where
         nodes = rw length-table (h .nodes);
         entries = rw length-table (h .entries);
         chunks = rw length-table (h .chunks);
+        mark = unfold readAllocator in rw (num-part 8 l 64 (128 + 8 * C) 0 (omega arith)) (f .marked .mark);
         twelve = shown-allocator .twelve;
         words = length-free;
         small = shown-allocator .small;

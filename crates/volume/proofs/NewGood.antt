@@ -45,6 +45,7 @@ fits-fresh n e c s size p h =
       nodes = p .nodes .0;
       entries = omega arith;
       chunks = omega arith;
+      mark = refl;
       twelve = length-zeros 12;
       words = length-zeros c;
       small = small-words c s (omega arith);

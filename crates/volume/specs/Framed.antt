@@ -88,6 +88,7 @@ pub record Fits (v : Volume) : Type 0 where
   pub nodes : length (v .nodes) ≤ v .nodeRoom
   pub entries : length (v .entries) ≤ v .entryRoom
   pub chunks : length (v .chunks) ≤ v .chunkRoom
+  pub mark : v .allocator .mark ≡ marker
   pub twelve : length (v .allocator .unread) ≡ 12
   pub words : length (v .allocator .words) ≡ v .chunkRoom
   pub small : Each (λ w. w < 2 ^ 64) (wordsOf (v .allocator))

@@ -11,12 +11,12 @@ use Rattle.types.specs.declared.FileType.the-variants.{Directory}
 use Rattle.types.specs.declared.Limit.the-variants.{Unlimited}
 use Rattle.types.specs.declared.NodeRecord.{NodeRecord}
 use Rattle.allocator.specs.Sizes.{acceptedSize}
-use Rattle.allocator.specs.Allocator.{Allocator}
+use Rattle.allocator.specs.Allocator.{Allocator, marker}
 use Rattle.volume.specs.Volume.{Volume, laid, atBytes}
 use Rattle.volume.specs.Geometry.{placed}
 
 abbrev pub freshAllocator : ℕ → ℕ → Allocator
-freshAllocator c s = record { chunkSize = s; freeCount = 0; nextPtr = 0; unread = zeros 12; words = zeros c }
+freshAllocator c s = record { mark = marker; chunkSize = s; freeCount = 0; nextPtr = 0; unread = zeros 12; words = zeros c }
 
 abbrev pub root : NodeRecord
 root = record { node = 0; kind = Directory; limit = Unlimited; links = 1; size = 0 }

@@ -155,8 +155,7 @@ fn run(generator: &mut Generator, words: &[u64], most: u64, tally: &mut Tally) -
         steps += 1;
     };
     step(vec![2, answer], after);
-    // behind open the proved functions ask for the whole marker, as a sound volume has it
-    if answer == 0 && rust.words()[0] == MARKER {
+    if answer == 0 {
         let taste = generator.below(3);
         for _ in 0..most / 2 + generator.below(most.div_ceil(2)) {
             let call = call(generator, &mut rust, taste);

@@ -1,10 +1,10 @@
 use borrow.Author.Needs.{needs}
 use Rattle.allocator_vectors.proofs.formed.Statement.{statement}
+use Rattle.allocator_vectors.proofs.formed.Tie as tie
 use mathlib.Core.Bool.{false≢true}
 use Rattle.allocator_vectors.proofs.Allowed.{formed-of}
 use denote.Ref.{now}
 use native.Mathlib.Omega.{arith}
-use Rattle.allocator_vectors.proofs.formed.Tie as tie
 
 returns : tie.Need-returns
 returns c = λ e. absurd (false≢true e)
@@ -15,27 +15,12 @@ returns-2 c = λ e. absurd (false≢true e)
 get64-requires : tie.Need-get64-requires
 get64-requires c κs = search needs
 
-returns-3 : tie.Need-returns-3
-returns-3 c = λ e. absurd (false≢true e)
-
-get64-requires-2 : tie.Need-get64-requires-2
-get64-requires-2 c κs = search needs
-
 free-room-requires : tie.Need-free-room-requires
 free-room-requires c κs = search needs
 
-returns-4 : tie.Need-returns-4
-returns-4 c =
-    formed-of (now (c .before .before .before .before .before .before .before .args .words)) (c .before .get642 .result) (c .free-room .result) (omega arith) (omega arith) (c .before .before .before .get64 .ensures) (omega arith) (c .before .get642 .ensures) (c .free-room .ensures)
+returns-3 : tie.Need-returns-3
+returns-3 c =
+    formed-of (now (c .before .before .before .before .before .args .words)) (c .before .get64 .result) (c .free-room .result) (omega arith) (omega arith) (c .before .get64 .ensures) (c .free-room .ensures)
 
 pub formed-spec : {M : Type 1} → statement M
-formed-spec =
-    tie.close
-    (tie.spec
-    returns
-    returns-2
-    get64-requires
-    returns-3
-    get64-requires-2
-    free-room-requires
-    returns-4)
+formed-spec = tie.close (tie.spec returns returns-2 get64-requires free-room-requires returns-3)

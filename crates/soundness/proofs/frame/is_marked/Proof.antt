@@ -1,48 +1,65 @@
 use borrow.Author.Needs.{needs}
 use Rattle.soundness.proofs.frame.is_marked.Statement.{statement}
-use Rattle.words.proofs.Rules.{stop, go-on, is-yes, is-no, call-no, call-yes, by1, le-as}
-use Rattle.soundness.specs.Frame.{marked}
-use Rattle.allocator.specs.Sizes.{acceptedSize}
 use Rattle.soundness.proofs.frame.is_marked.Tie as tie
+use Rattle.soundness.proofs.frame.is_marked.Reads as reads
+use Rattle.soundness.proofs.frame.is_marked.Lts as lts
+use Rattle.allocator.proofs.is_marked.Reads as is-marked-reads
+use Rattle.words.proofs.get64.Reads as get64-reads
+use denote.Ref.{now}
+use mathlib.Core.Path.{ap, _∙_}
+use native.Mathlib.Omega.{arith}
+use Prim.Native.Nat.{ℕ, _+_, _*_}
+use lib.ListN.{length-take, length-drop}
+use Rattle.soundness.proofs.Frames.{marked-lent}
 
+-- src/frame.rt:72:18
 get64-requires : tie.Need-get64-requires
 get64-requires c κs = search needs
 
+-- src/frame.rt:73:33
+mul-size : tie.Need-mul-size
+mul-size c = search needs
+
+-- src/frame.rt:73:16
+add-size : tie.Need-add-size
+add-size c = omega (arith, c .get64 .ensures, c .before .before .pre .placed .chunks)
+
+-- src/frame.rt:74:45
+add-is-marked : tie.Need-add-is-marked
+add-is-marked c = omega (arith, c .get64 .ensures, c .before .before .pre .placed .chunks)
+
+-- src/frame.rt:74:26
+sub-is-marked : tie.Need-sub-is-marked
+sub-is-marked c = search needs
+
+-- src/frame.rt:74:26
+part-is-marked-start : tie.Need-part-is-marked-start
+part-is-marked-start c = search needs
+
+-- src/frame.rt:74:26
+part-is-marked-end : tie.Need-part-is-marked-end
+part-is-marked-end c = omega (arith, c .get64 .ensures, c .before .before .pre .placed .long)
+
+-- src/frame.rt:74:5
+is-marked-requires : tie.Need-is-marked-requires
+is-marked-requires c κs =
+    simp (length-take, length-drop) (omega (arith, c .before .get64 .ensures, c .before .before .before .pre .placed .long, c .before .before .before .pre .placed .chunks))
+
+-- src/frame.rt:68:1
 returns : tie.Need-returns
-unfolding marked
-returns c = stop _ _ (is-no (c .before .get64 .ensures) (c .if1 .taken))
-
-get64-requires-2 : tie.Need-get64-requires-2
-get64-requires-2 c κs = search needs
-
-accepted-requires : tie.Need-accepted-requires
-accepted-requires c κs = search needs
-
-returns-2 : tie.Need-returns-2
-unfolding marked
-returns-2 c =
-    (go-on _ _ (is-yes (c .before .before .before .before .get64 .ensures) (c .before .before .before .if1 .left))) (stop _ _ (call-no (by1 acceptedSize (c .before .accepted .ensures) (c .before .before .get642 .ensures)) (c .if2 .taken)))
-
-get64-requires-3 : tie.Need-get64-requires-3
-get64-requires-3 c κs = search needs
-
-get64-requires-4 : tie.Need-get64-requires-4
-get64-requires-4 c κs = search needs
-
-returns-3 : tie.Need-returns-3
-unfolding marked
-returns-3 c =
-    (go-on _ _ (is-yes (c .before .before .before .before .before .before .get64 .ensures) (c .before .before .before .before .before .if1 .left))) (go-on _ _ (call-yes (by1 acceptedSize (c .before .before .before .accepted .ensures) (c .before .before .before .before .get642 .ensures)) (c .before .before .if2 .left)) (le-as (c .before .get643 .ensures) (c .get644 .ensures)))
+returns c =
+    marked-lent (now (c .before .before .before .before .args .volume)) (c .before .before .before .before .pre) (ap (λ (k : ℕ). 128 + 8 * k) (c .before .before .get64 .ensures)) (c .is-marked .ensures)
 
 pub is-marked-spec : {M : Type 1} → statement M
 is-marked-spec =
     tie.close
     (tie.spec
     get64-requires
-    returns
-    get64-requires-2
-    accepted-requires
-    returns-2
-    get64-requires-3
-    get64-requires-4
-    returns-3)
+    mul-size
+    add-size
+    add-is-marked
+    sub-is-marked
+    part-is-marked-start
+    part-is-marked-end
+    is-marked-requires
+    returns)

@@ -7,7 +7,8 @@ use Rattle.words.specs.Rule.{upto}
 use Rattle.words.proofs.Rules.{stop, go-on, call-yes, call-no}
 use Rattle.allocator.specs.Opening.{lined, freeWord}
 use Rattle.soundness.specs.Pointers.{pointersGood}
-use Rattle.soundness.proofs.FreeWords.{words-lent, count-room, free-lines}
+use Rattle.tables.proofs.Lent.{words-lent}
+use Rattle.soundness.proofs.FreeWords.{count-room, free-lines}
 use Rattle.tables.proofs.Rooms.{rooms}
 use Rattle.soundness.proofs.pointers.pointers_good.Tie as tie
 

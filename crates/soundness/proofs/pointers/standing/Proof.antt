@@ -6,7 +6,8 @@ use native.Mathlib.Omega.{arith}
 use lib.Dec.{eqb}
 use Rattle.words.specs.Rule.{tally}
 use Rattle.allocator.specs.Opening.{freeWord}
-use Rattle.soundness.proofs.FreeWords.{words-long, words-lent, count-room, free-stands}
+use Rattle.tables.proofs.Lent.{words-long, words-lent}
+use Rattle.soundness.proofs.FreeWords.{count-room, free-stands}
 use Rattle.tables.proofs.Rooms.{rooms}
 use Rattle.soundness.proofs.pointers.standing.Tie as tie
 
