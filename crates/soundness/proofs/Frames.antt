@@ -2,19 +2,16 @@
 -- Assumes nothing.
 use mathlib.Core.Path.{_≡_, refl, ap, _∙_}
 use mathlib.Core.Bool.{Bool, true, false, false≢true}
-use mathlib.Core.Logic.{_⊎_, inl, inr}
 use mathlib.Core.List.{List}
 use Prim.Native.Nat.{ℕ, zero, suc, _+_, _-_, _*_, _/_, _≤_, _<_}
 use native.Mathlib.Omega.{arith}
-use lib.Dec.{eqb, leb}
 use lib.ListN.{length, take, drop}
-use Rattle.words.specs.Bytes.{word, num, part, zeros}
-use Rattle.words.specs.Rule.{pick, both, upto, allZero}
+use Rattle.words.specs.Bytes.{word, part}
+use Rattle.words.specs.Rule.{both, upto, allZero}
 use Rattle.words.proofs.Parts.{length-part}
 use Rattle.words.proofs.Numbers.{num-part}
 use Rattle.words.proofs.Rules.{Says, holds, fails, says-map, says-both, says-and, says-upto, says-eqb, says-leb, says-true, true-says, go-on}
-use Rattle.words.proofs.Blocks.{says-zero}
-use Rattle.types.specs.Sizes.{mostSize, mostName, nameRoom}
+use Rattle.words.proofs.Blocks.{says-zeros}
 use Rattle.allocator.specs.Sizes.{acceptedSize}
 use Rattle.allocator.specs.Allocator.{marker}
 use Rattle.allocator.specs.Words.{wellMarked}
@@ -26,8 +23,10 @@ use Rattle.volume.specs.declared.Layout.{Layout}
 use Rattle.volume.specs.Geometry.{layoutOf, placed, placeOf}
 use Rattle.volume.specs.Framed.{Headed, Marked, NodeFormed, EntryFormed, RowsFormed, Framed}
 use Rattle.volume.proofs.Place.{the-type}
+use Rattle.volume.specs.RowTests.{nodeFormed, entryFormed}
+use Rattle.volume.proofs.RowTests.{says-node, says-entry}
 use Rattle.volume.proofs.Places.{says-placed, not-placed, is-placed}
-use Rattle.soundness.specs.Frame.{headed, marked, limitFormed, nodeFormed, entryFormed, rowsFormed, formed, framed}
+use Rattle.soundness.specs.Frame.{headed, marked, rowsFormed, formed, framed}
 
 -- ---- the tests mean what the records say
 
@@ -48,39 +47,6 @@ unfolding marked
 says-marked l =
     says-map (λ p. record { mark = p .0; size = p .1 .0; free = p .1 .1 }) (λ h. (h .mark, (h .size, h .free)))
     (says-both (says-eqb (word l 64) marker) (says-both (says-bool (acceptedSize (word l 72))) (says-leb (word l 80) (word l 24))))
-
--- the part is n bytes long
-says-zeros : (l : List ℕ) (at n : ℕ) → at + n ≤ length l → Says (part l at n ≡ zeros n) (allZero (part l at n))
-says-zeros l at n h = says-map (λ e. rw (length-part l at n h) at e) (λ e. rw (length-part l at n h) e) (says-zero (part l at n))
-
-pub says-limit : (flag n : ℕ) → Says (((flag ≡ 0) × (n ≡ 0)) ⊎ ((flag ≡ 1) × (n ≤ mostSize))) (limitFormed flag n)
-unfolding limitFormed pick
-says-limit flag n = go (says-eqb flag 0)
-  where
-    go : {t : Bool} → Says (flag ≡ 0) t → Says (((flag ≡ 0) × (n ≡ 0)) ⊎ ((flag ≡ 1) × (n ≤ mostSize))) (pick t (eqb n 0) (both (eqb flag 1) (leb n mostSize)))
-    go (holds z) = says-map (λ e. inl (z, e)) back (says-eqb n 0)
-      where
-        back : ((flag ≡ 0) × (n ≡ 0)) ⊎ ((flag ≡ 1) × (n ≤ mostSize)) → n ≡ 0
-        back (inl p) = p .1
-        back (inr p) = absurd (omega arith)
-    go (fails z) = says-map (λ p. inr p) back (says-both (says-eqb flag 1) (says-leb n mostSize))
-      where
-        back : ((flag ≡ 0) × (n ≡ 0)) ⊎ ((flag ≡ 1) × (n ≤ mostSize)) → (flag ≡ 1) × (n ≤ mostSize)
-        back (inl p) = absurd (z (p .0))
-        back (inr p) = p
-
-module _ (l : List ℕ) (at : ℕ) where
-  pub says-node : at + 40 ≤ length l → Says (NodeFormed l at) (nodeFormed l at)
-  unfolding nodeFormed
-  says-node h =
-      says-map (λ p. record { kind = p .0; limit = p .1 .0; spare = p .1 .1 }) (λ f. (f .kind, (f .limit, f .spare)))
-      (says-both (says-leb (num 1 l (at + 8)) 2) (says-both (says-limit (num 1 l (at + 9)) (word l (at + 32))) (says-zeros l (at + 10) 6 (omega arith))))
-
-  pub says-entry : at + 280 ≤ length l → Says (EntryFormed l at) (entryFormed l at)
-  unfolding entryFormed
-  says-entry h =
-      says-map (λ p. record { least = p .0; most = p .1 .0; rest = p .1 .1 }) (λ f. (f .least, (f .most, f .rest)))
-      (says-both (says-leb 1 (num 4 l (at + 20))) (says-and (says-leb (num 4 l (at + 20)) mostName) (λ m. says-zeros l (at + 24 + num 4 l (at + 20)) (nameRoom - num 4 l (at + 20)) (omega arith))))
 
 pub says-rows : (Row : ℕ → Type 0) (row : ℕ → Bool) (s : ℕ) (l : List ℕ) (at used room : ℕ) → at + s * used + s * (room - used) ≤ length l → ((i : ℕ) → i < used → Says (Row (at + s * i)) (row (at + s * i)))
     → Says (RowsFormed Row s l at used room) (rowsFormed row s l at used room)
@@ -109,11 +75,6 @@ headed-true l e = says-true (says-headed l) e
 
 -- ---- what the code finds
 
--- a part that was lent
-pub zero-part : (l : List ℕ) (at n : ℕ) {r : Bool} → r ≡ allZero (take (at + n - at) (drop at l)) → r ≡ allZero (part l at n)
-unfolding part
-zero-part l at n e = let k : at + n - at ≡ n = omega arith in rw k at e
-
 -- rooms that a header holds, and the place that they give
 module _ (l : List ℕ) {n e c : ℕ} (p : n ≡ word l 8) (q : e ≡ word l 16) (t : c ≡ word l 24) (r : Place) where
   pub placed-no : tagOf the-type r ≡ 1 → r ≡ placeOf n e c (length l) → placed (word l 8) (word l 16) (word l 24) (length l) ≡ false
@@ -134,9 +95,6 @@ all-rows (suc n) = rw (all-rows n)
 pub any-rows : (s : ℕ) (l : List ℕ) (at used room : ℕ) {r : Bool} → r ≡ allZero (part l (at + s * used) (s * (room - used))) → r ≡ rowsFormed (λ _. true) s l at used room
 unfolding rowsFormed
 any-rows s l at used room e = go-on _ _ (all-rows used) e
-
-pub entry-rest : (l : List ℕ) (at : ℕ) {n : ℕ} {r : Bool} → r ≡ allZero (part l (at + 24 + n) (256 - n)) → n ≡ num 4 l (at + 20) → r ≡ allZero (part l (at + 24 + num 4 l (at + 20)) (nameRoom - num 4 l (at + 20)))
-entry-rest l at e p = rw (← p) e
 
 -- the tables of a header that was checked, with numbers that were read
 module _ (l : List ℕ) {y : Layout} (k : y ≡ layoutOf (word l 8) (word l 16) (word l 24)) {used room : ℕ} where

@@ -5,13 +5,13 @@ use mathlib.Core.Bool.{Bool, true}
 use mathlib.Core.List.{List}
 use lib.ListN.{length}
 use lib.Dec.{eqb, leb}
-use Rattle.words.specs.Bytes.{word, num, part}
-use Rattle.words.specs.Rule.{pick, both, upto, allZero}
-use Rattle.types.specs.Sizes.{mostSize, mostName, nameRoom}
+use Rattle.words.specs.Bytes.{word, part}
+use Rattle.words.specs.Rule.{both, upto, allZero}
 use Rattle.allocator.specs.Sizes.{acceptedSize}
 use Rattle.allocator.specs.Allocator.{marker}
 use Rattle.volume.specs.Volume.{form, atNodes, atEntries, atChunks}
 use Rattle.volume.specs.Geometry.{placed}
+use Rattle.volume.specs.RowTests.{nodeFormed, entryFormed}
 
 -- the form, the geometry and the length, used counts that fit
 unfoldable pub headed : List ℕ → Bool
@@ -22,17 +22,6 @@ headed l =
 -- the allocator's marker, chunk size and free count
 unfoldable pub marked : List ℕ → Bool
 marked l = both (eqb (word l 64) marker) (both (acceptedSize (word l 72)) (leb (word l 80) (word l 24)))
-
--- a limit of at most 2^40 under flag 1, none under flag 0
-unfoldable pub limitFormed : ℕ → ℕ → Bool
-limitFormed flag n = pick (eqb flag 0) (eqb n 0) (both (eqb flag 1) (leb n mostSize))
-
-unfoldable pub nodeFormed : List ℕ → ℕ → Bool
-nodeFormed l at = both (leb (num 1 l (at + 8)) 2) (both (limitFormed (num 1 l (at + 9)) (word l (at + 32))) (allZero (part l (at + 10) 6)))
-
-unfoldable pub entryFormed : List ℕ → ℕ → Bool
-entryFormed l at =
-    both (leb 1 (num 4 l (at + 20))) (both (leb (num 4 l (at + 20)) mostName) (allZero (part l (at + 24 + num 4 l (at + 20)) (nameRoom - num 4 l (at + 20)))))
 
 -- rows of s bytes in use, and zeros behind them
 unfoldable pub rowsFormed : (ℕ → Bool) → ℕ → List ℕ → ℕ → ℕ → ℕ → Bool

@@ -6,7 +6,8 @@ ghost use Prim.Native.Nat.{_+_, _*_, _≤_};
 ghost use lib.ListN.{length};
 ghost use Rattle.words.specs.Rule.{upto};
 ghost use Rattle.volume.specs.Framed.{Headed};
-ghost use Rattle.soundness.specs.Frame.{headed, marked, limitFormed, nodeFormed, entryFormed, rowsFormed, formed, framed};
+ghost use Rattle.volume.specs.RowTests.{nodeFormed, entryFormed};
+ghost use Rattle.soundness.specs.Frame.{headed, marked, rowsFormed, formed, framed};
 
 // The header's bytes.
 const HEADER: usize = 64;
@@ -15,28 +16,6 @@ const HEADER: usize = 64;
 const ALLOCATOR: usize = HEADER;
 
 const ALLOCATOR_HEAD: usize = types::WORD * types::ALLOCATOR_WORDS;
-
-// Within a node's row.
-const KIND: usize = 8;
-
-const FLAG: usize = 9;
-
-const SPARE: usize = 10;
-
-const SPARE_BYTES: usize = 6;
-
-const LIMIT: usize = 32;
-
-const MOST_KIND: u64 = 2;
-
-const NO_LIMIT: u64 = 0;
-
-const LIMITED: u64 = 1;
-
-// Within an entry's row.
-const NAME_SIZE: usize = 20;
-
-const NAME: usize = 24;
 
 // The form, the geometry and the length, used counts that fit.
 fn is_headed(volume: &[u8]) -> bool
@@ -74,36 +53,6 @@ fn is_marked(volume: &[u8]) -> bool
     allocator::is_marked(&volume[ALLOCATOR..ALLOCATOR + size])
 }
 
-fn limit_formed(flag: u64, limit: u64) -> bool
-    ensures { λ r. ⌜ r ≡ limitFormed flag limit ⌝ }
-{
-    if flag == NO_LIMIT {
-        return limit == 0;
-    }
-    if flag != LIMITED {
-        return false;
-    }
-    limit <= types::MOST_SIZE
-}
-
-// Whether the bytes at index at can be a node's row.
-fn node_formed(volume: &[u8], at: usize) -> bool
-    requires { ⌜ at + 40 ≤ length (now volume) ⌝ }
-    ensures { λ r. ⌜ r ≡ nodeFormed (now (volume .entry)) at ⌝ }
-{
-    if MOST_KIND < words::get8(volume, at + KIND) {
-        return false;
-    }
-    if !limit_formed(
-        words::get8(volume, at + FLAG),
-        words::get64(volume, at + LIMIT),
-    ) {
-        return false;
-    }
-    let spare = at + SPARE;
-    words::is_zero(&volume[spare..spare + SPARE_BYTES])
-}
-
 // Whether the rows in use can be nodes' rows.
 fn node_rows(volume: &[u8], base: usize, used: usize) -> bool
     requires { ⌜ base + 40 * used ≤ length (now volume) ⌝ }
@@ -111,7 +60,7 @@ fn node_rows(volume: &[u8], base: usize, used: usize) -> bool
 {
     let mut i = 0;
     while i < used {
-        if !node_formed(volume, base + types::NODE_ROW * i) {
+        if !volume::node_formed(volume, base + types::NODE_ROW * i) {
             return false;
         }
         i += 1;
@@ -132,30 +81,13 @@ fn nodes_formed(volume: &[u8], base: usize, used: usize, room: usize) -> bool
     words::is_zero(&volume[rest..rest + unused])
 }
 
-// Whether the bytes at index at can be an entry's row.
-fn entry_formed(volume: &[u8], at: usize) -> bool
-    requires { ⌜ at + 280 ≤ length (now volume) ⌝ }
-    ensures { λ r. ⌜ r ≡ entryFormed (now (volume .entry)) at ⌝ }
-{
-    let size = words::get32(volume, at + NAME_SIZE) as usize;
-    if size < 1 {
-        return false;
-    }
-    if types::MOST_NAME < size {
-        return false;
-    }
-    let rest = at + NAME + size;
-    let unused = types::NAME_ROOM - size;
-    words::is_zero(&volume[rest..rest + unused])
-}
-
 fn entry_rows(volume: &[u8], base: usize, used: usize) -> bool
     requires { ⌜ base + 280 * used ≤ length (now volume) ⌝ }
     ensures { λ r. ⌜ r ≡ upto used (λ i. entryFormed (now (volume .entry)) (base + 280 * i)) ⌝ }
 {
     let mut i = 0;
     while i < used {
-        if !entry_formed(volume, base + types::ENTRY_ROW * i) {
+        if !volume::entry_formed(volume, base + types::ENTRY_ROW * i) {
             return false;
         }
         i += 1;

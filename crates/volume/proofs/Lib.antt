@@ -9,3 +9,4 @@ pub mod Lens
 pub mod Rounding
 pub mod NewLaid
 pub mod NewGood
+pub mod RowTests

@@ -5,3 +5,4 @@ pub mod Geometry
 pub mod Search
 pub mod Fresh
 pub mod Sound
+pub mod RowTests

@@ -7,6 +7,7 @@ ghost use Rattle.words.specs.Bytes.{part, over, num};
 ghost use Rattle.words.specs.Table.{table, lead, Falls};
 ghost use Rattle.types.specs.Sizes.{nameRoom};
 ghost use Rattle.volume.specs.Rows.{layEntry, readEntry};
+ghost use Rattle.volume.specs.RowTests.{entryFormed};
 ghost use Rattle.volume.specs.Search.{entryUnder};
 
 // Where the fields of a row start, behind its parent: node, index, the name's length, the name.
@@ -91,4 +92,21 @@ pub fn seek_entry(volume: &[u8], base: usize, used: usize, parent: u64, index: u
         }
     }
     low
+}
+
+// Whether the bytes at index at can be an entry's row.
+pub fn entry_formed(volume: &[u8], at: usize) -> bool
+    requires { ⌜ at + 280 ≤ length (now volume) ⌝ }
+    ensures { λ r. ⌜ r ≡ entryFormed (now (volume .entry)) at ⌝ }
+{
+    let size = words::get32(volume, at + NAME_SIZE) as usize;
+    if size < 1 {
+        return false;
+    }
+    if types::MOST_NAME < size {
+        return false;
+    }
+    let rest = at + NAME + size;
+    let unused = types::NAME_ROOM - size;
+    words::is_zero(&volume[rest..rest + unused])
 }

@@ -8,6 +8,7 @@ ghost use lib.ListN.{length};
 ghost use Rattle.words.specs.Bytes.{part, over};
 ghost use Rattle.words.specs.Table.{table, lead, Falls};
 ghost use Rattle.volume.specs.Rows.{kindOr, layNode, readNode};
+ghost use Rattle.volume.specs.RowTests.{limitFormed, nodeFormed};
 ghost use Rattle.volume.specs.Search.{nodeUnder};
 
 // Where the fields of a row start, behind its node: the type byte, the limit flag, zeros, links, size and limit.
@@ -22,6 +23,13 @@ const LINKS: usize = 16;
 const SIZE: usize = 24;
 
 const LIMIT: usize = 32;
+
+// The greatest type byte, and what the flag means.
+const MOST_KIND: u64 = 2;
+
+const NO_LIMIT: u64 = 0;
+
+const LIMITED: u64 = 1;
 
 // How many zeros stand behind the flag.
 const SPARE_SIZE: usize = 6;
@@ -86,4 +94,35 @@ pub fn seek_node(volume: &[u8], base: usize, used: usize, node: u64) -> usize
         }
     }
     low
+}
+
+// Whether a limit fits its flag: at most 2^40 under flag 1, 0 under flag 0.
+fn limit_formed(flag: u64, limit: u64) -> bool
+    ensures { λ r. ⌜ r ≡ limitFormed flag limit ⌝ }
+{
+    if flag == NO_LIMIT {
+        return limit == 0;
+    }
+    if flag != LIMITED {
+        return false;
+    }
+    limit <= types::MOST_SIZE
+}
+
+// Whether the bytes at index at can be a node's row.
+pub fn node_formed(volume: &[u8], at: usize) -> bool
+    requires { ⌜ at + 40 ≤ length (now volume) ⌝ }
+    ensures { λ r. ⌜ r ≡ nodeFormed (now (volume .entry)) at ⌝ }
+{
+    if MOST_KIND < words::get8(volume, at + KIND) {
+        return false;
+    }
+    if !limit_formed(
+        words::get8(volume, at + FLAG),
+        words::get64(volume, at + LIMIT),
+    ) {
+        return false;
+    }
+    let spare = at + SPARE;
+    words::is_zero(&volume[spare..spare + SPARE_SIZE])
 }

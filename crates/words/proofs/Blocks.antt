@@ -3,7 +3,7 @@
 use mathlib.Core.Path.{_≡_, refl, sym, ap, _∙_}
 use mathlib.Core.Bool.{Bool, true, false}
 use mathlib.Core.List.{List, [], _∷_, _++_}
-use Prim.Native.Nat.{ℕ, zero, suc, _+_, _*_, _≤_, _<_}
+use Prim.Native.Nat.{ℕ, zero, suc, _+_, _-_, _*_, _≤_, _<_}
 use native.Mathlib.Nat.{zero-add}
 use native.Mathlib.Numerals.{add-one}
 use native.Mathlib.Omega.{arith}
@@ -13,7 +13,7 @@ use lib.ListN.{length, take, drop, getD}
 use lib.Seq.{take-add, take-all, take-suc}
 use Rattle.words.specs.Bytes.{part, zeros, value, num, Bytes}
 use Rattle.words.specs.Rule.{both, same, allZero}
-use Rattle.words.proofs.Parts.{cut, part-add}
+use Rattle.words.proofs.Parts.{cut, part-add, length-part}
 use Rattle.words.proofs.Numbers.{spell-num, num-one}
 use Rattle.words.proofs.Rules.{Says, holds, fails, says-eqb, says-both, says-map, says-true, true-says}
 
@@ -123,3 +123,14 @@ module _ (l : List ℕ) (i n x : ℕ) (p : eqb x 0 ≡ allZero (part l i n)) whe
 
 pub zero-end : (l : List ℕ) (i : ℕ) → allZero (take i l) ≡ true → length l ≤ i → true ≡ allZero l
 zero-end l i p h = sym (rw (take-all i l h) at p)
+
+-- ---- a part of a list that is tested
+
+-- the part is n bytes long
+pub says-zeros : (l : List ℕ) (at n : ℕ) → at + n ≤ length l → Says (part l at n ≡ zeros n) (allZero (part l at n))
+says-zeros l at n h = says-map (λ e. rw (length-part l at n h) at e) (λ e. rw (length-part l at n h) e) (says-zero (part l at n))
+
+-- a part that was lent
+pub zero-part : (l : List ℕ) (at n : ℕ) {r : Bool} → r ≡ allZero (take (at + n - at) (drop at l)) → r ≡ allZero (part l at n)
+unfolding part
+zero-part l at n e = let k : at + n - at ≡ n = omega arith in rw k at e

@@ -1,7 +1,8 @@
 use borrow.Author.Needs.{needs}
 use Rattle.soundness.proofs.frame.chunks_formed.Statement.{statement}
 use denote.Ref.{now}
-use Rattle.soundness.proofs.Frames.{zero-part, any-rows}
+use Rattle.words.proofs.Blocks.{zero-part}
+use Rattle.soundness.proofs.Frames.{any-rows}
 use Prim.Native.Nat.{_+_, _-_, _*_}
 use Rattle.soundness.proofs.frame.chunks_formed.Tie as tie
 

@@ -4,7 +4,7 @@ use denote.Ref.{now}
 use native.Mathlib.Omega.{arith}
 use Rattle.words.proofs.Rules.{upto-start, upto-turn, upto-fail, upto-end, call-no, call-yes}
 use Rattle.words.specs.Rule.{upto}
-use Rattle.soundness.specs.Frame.{nodeFormed}
+use Rattle.volume.specs.RowTests.{nodeFormed}
 use mathlib.Core.Bool.{true}
 use mathlib.Core.Path.{_≡_}
 use Prim.Native.Nat.{ℕ, _+_, _-_, _*_, _≤_}

@@ -1,9 +1,9 @@
-use Rattle.soundness.proofs.frame.limit_formed.Statement.{statement}
+use Rattle.volume.proofs.nodes.limit_formed.Statement.{statement}
 use Rattle.words.proofs.Rules.{stop, go-on, pick-true, pick-false}
-use Rattle.soundness.specs.Frame.{limitFormed}
+use Rattle.volume.specs.RowTests.{limitFormed}
 use borrow.Author.Tests.{eq-eqb, ne-eqb}
 use mathlib.Core.Path.{refl}
-use Rattle.soundness.proofs.frame.limit_formed.Tie as tie
+use Rattle.volume.proofs.nodes.limit_formed.Tie as tie
 
 returns : tie.Need-returns
 unfolding limitFormed

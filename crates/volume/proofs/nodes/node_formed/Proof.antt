@@ -1,11 +1,11 @@
 use borrow.Author.Needs.{needs}
-use Rattle.soundness.proofs.frame.node_formed.Statement.{statement}
+use Rattle.volume.proofs.nodes.node_formed.Statement.{statement}
 use denote.Ref.{now}
 use Rattle.words.proofs.Rules.{stop, go-on, le-yes, le-no, call-no, call-yes, by2}
-use Rattle.soundness.proofs.Frames.{zero-part}
-use Rattle.soundness.specs.Frame.{limitFormed, nodeFormed}
+use Rattle.words.proofs.Blocks.{zero-part}
+use Rattle.volume.specs.RowTests.{limitFormed, nodeFormed}
 use Prim.Native.Nat.{_+_}
-use Rattle.soundness.proofs.frame.node_formed.Tie as tie
+use Rattle.volume.proofs.nodes.node_formed.Tie as tie
 
 add-get8 : tie.Need-add-get8
 add-get8 c = search needs

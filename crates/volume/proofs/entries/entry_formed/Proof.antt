@@ -1,12 +1,13 @@
 use borrow.Author.Needs.{needs}
-use Rattle.soundness.proofs.frame.entry_formed.Statement.{statement}
+use Rattle.volume.proofs.entries.entry_formed.Statement.{statement}
 use denote.Ref.{now}
 use Rattle.words.proofs.Rules.{stop, go-on, le-yes, le-no, le-yes2, le-no2}
-use Rattle.soundness.proofs.Frames.{zero-part, entry-rest}
-use Rattle.soundness.specs.Frame.{entryFormed}
+use Rattle.words.proofs.Blocks.{zero-part}
+use Rattle.volume.proofs.RowTests.{entry-rest}
+use Rattle.volume.specs.RowTests.{entryFormed}
 use mathlib.Core.Path.{refl}
 use Prim.Native.Nat.{_+_, _-_}
-use Rattle.soundness.proofs.frame.entry_formed.Tie as tie
+use Rattle.volume.proofs.entries.entry_formed.Tie as tie
 
 add-get32 : tie.Need-add-get32
 add-get32 c = search needs
