@@ -1,5 +1,6 @@
 pub mod Frames
 pub mod Places
 pub mod Orders
+pub mod Related
 pub mod Accounted
 pub mod FreeWords

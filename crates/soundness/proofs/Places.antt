@@ -61,3 +61,18 @@ module _ {R : Type 0} (d : R) (lt : R → R → Type 0) (trans : (a b c : R) →
 
   pub asc-places : (f : R → R → Bool) → ((a b : R) → Says (lt a b) (f a b)) → (rs : List R) → Says (Asc lt rs) (upto (length rs - 1) (λ i. f (getD rs i d) (getD rs (i + 1) d)))
   asc-places f s rs = says-map (asc-of rs) (of-asc rs) (says-upto (λ i. lt (getD rs i d) (getD rs (i + 1) d)) _ (length rs - 1) (λ i b. s (getD rs i d) (getD rs (i + 1) d)))
+
+-- ---- every row before all behind it, by their places
+
+module _ {R : Type 0} (lt : R → R → Type 0) (d : R) where
+  pub asc-at : (rs : List R) → Asc lt rs → (j i : ℕ) → j < i → i < length rs → lt (getD rs j d) (getD rs i d)
+  unfolding Asc
+  asc-at [] a j i h b = absurd (omega arith)
+  asc-at (r ∷ rs) a j zero h b = absurd (omega arith)
+  asc-at (r ∷ rs) a zero (suc i) h b = each-at (lt r) rs i d (a .0) (omega arith)
+  asc-at (r ∷ rs) a (suc j) (suc i) h b = asc-at rs (a .1) j i (omega arith) (omega arith)
+
+  pub at-asc : (rs : List R) → ((j i : ℕ) → j < i → i < length rs → lt (getD rs j d) (getD rs i d)) → Asc lt rs
+  unfolding Asc
+  at-asc [] h = tt
+  at-asc (r ∷ rs) h = (places-each (lt r) d rs (λ i b. h 0 (suc i) (omega arith) (omega arith)), at-asc rs (λ j i k b. h (suc j) (suc i) (omega arith) (omega arith)))

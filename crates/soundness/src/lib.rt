@@ -1,8 +1,12 @@
 // Whether a memory is a sound volume: one function for each rule of the scope, in its order.
+mod entries;
 mod frame;
 mod order;
 mod pointers;
 
+pub use entries::names_once;
+pub use entries::parents_good;
+pub use entries::targets_found;
 pub use frame::is_framed;
 pub use order::chunks_ascend;
 pub use order::entries_ascend;

@@ -56,7 +56,7 @@ pair-trans a b c d x y (inr h) (inl k) = inl (omega (arith, h .0))
 pair-trans a b c d x y (inr h) (inr k) = inr (h .0 ∙ k .0, omega (arith, h .1, k .1))
 
 -- (a, b) not before a key, and (c, d) behind (a, b): not before it either
-pair-falls : (a b c d x y : ℕ) → PairBefore a b c d → pairBefore a b x y ≡ false → pairBefore c d x y ≡ false
+pub pair-falls : (a b c d x y : ℕ) → PairBefore a b c d → pairBefore a b x y ≡ false → pairBefore c d x y ≡ false
 pair-falls a b c d x y h e = go (pairBefore c d x y) (says-pair c d x y)
   where
     go : (t : Bool) → Says (PairBefore c d x y) t → t ≡ false
