@@ -3,3 +3,5 @@ pub mod Places
 pub mod Orders
 pub mod Accounted
 pub mod FreeWords
+pub mod Counters
+pub mod Counts

@@ -1,9 +1,11 @@
 // Whether a memory is a sound volume: one function for each rule of the scope, in its order.
 mod frame;
+mod nodes;
 mod order;
 mod pointers;
 
 pub use frame::is_framed;
+pub use nodes::nodes_good;
 pub use order::chunks_ascend;
 pub use order::entries_ascend;
 pub use order::entries_indexed;
