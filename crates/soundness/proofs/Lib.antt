@@ -4,3 +4,5 @@ pub mod Orders
 pub mod Related
 pub mod Accounted
 pub mod FreeWords
+pub mod Counters
+pub mod Counts

@@ -1,6 +1,7 @@
 // Whether a memory is a sound volume: one function for each rule of the scope, in its order.
 mod entries;
 mod frame;
+mod nodes;
 mod order;
 mod pointers;
 
@@ -8,6 +9,7 @@ pub use entries::names_once;
 pub use entries::parents_good;
 pub use entries::targets_found;
 pub use frame::is_framed;
+pub use nodes::nodes_good;
 pub use order::chunks_ascend;
 pub use order::entries_ascend;
 pub use order::entries_indexed;

@@ -1,0 +1,149 @@
+-- Counters by the rows of the nodes: each holds how many entries have the number of its row.
+-- Assumes nothing.
+use mathlib.Core.Path.{_≡_, refl, sym, ap, _∙_}
+use mathlib.Core.Bool.{Bool, true, false}
+use mathlib.Core.List.{List, [], _∷_}
+use mathlib.Core.Option.{none, some}
+use Prim.Native.Nat.{ℕ, zero, suc, _+_, _≤_, _<_}
+use native.Mathlib.Nat.{not-suc-le-zero, le-of-suc-le-suc}
+use native.Mathlib.Decide.{decLt}
+use native.Mathlib.Omega.{arith}
+use lib.Dec.{eqb}
+use lib.ListN.{length, getD, set, replicate, getD-replicate, length-set}
+use lib.Seq.{getD-set-same, getD-set-other}
+use borrow.Author.Tests.{eqb-true, eqb-false}
+use Rattle.words.specs.Rule.{pick, bit, tally, times}
+use Rattle.words.specs.Table.{Each, Asc, find}
+use Rattle.words.proofs.Order.{each-at}
+use Rattle.words.proofs.Rules.{Says, holds, fails, says-eqb, tally-turn, tally-le, tally-times}
+use Rattle.words.proofs.Counting.{bit-same, bit-apart}
+use Rattle.types.specs.declared.NodeRecord.{NodeRecord}
+use Rattle.volume.specs.Rows.{Entry, readNode, readEntry}
+use Rattle.volume.specs.declared.Layout.{Layout}
+use Rattle.volume.specs.Volume.{shown}
+use Rattle.volume.specs.Sound.{nodeBefore}
+use Rattle.tables.specs.declared.Found.{Found}
+use Rattle.tables.specs.declared.Found.the-variants.{At, Nothing}
+use Rattle.tables.specs.Tables.{Ready, nodeAt, entryAt, foundNode}
+use Rattle.tables.proofs.Rooms.{rooms, count-nodes, count-entries}
+use Rattle.tables.proofs.Finds.{node-found, node-absent}
+use Rattle.soundness.specs.Counted.{nodeGood}
+use Rattle.soundness.specs.Counters.{bumped}
+
+-- ---- the row that a search finds
+
+-- what is found passes, and where nothing is found none passes
+module _ {R : Type 0} (hit : R → Bool) where
+  found-hits : (rs : List R) (r : R) → find hit rs ≡ some r → hit r ≡ true
+  unfolding find pick
+  found-hits [] r e = let x : _≡_ {A = ℕ} 0 1 = cc in absurd (omega arith)
+  found-hits (s ∷ rs) r e = go (hit s) refl e (found-hits rs r)
+    where
+      go : (b : Bool) → hit s ≡ b → pick b (some s) (find hit rs) ≡ some r → (find hit rs ≡ some r → hit r ≡ true) → hit r ≡ true
+      go true q z k = let w : s ≡ r = cc in rw w at q
+      go false q z k = k z
+
+  none-hits : (rs : List R) → find hit rs ≡ none → Each (λ r. hit r ≡ false) rs
+  unfolding find pick Each
+  none-hits [] e = tt
+  none-hits (s ∷ rs) e = go (hit s) refl e (none-hits rs)
+    where
+      go : (b : Bool) → hit s ≡ b → pick b (some s) (find hit rs) ≡ none → (find hit rs ≡ none → Each (λ r. hit r ≡ false) rs) → (hit s ≡ false) × Each (λ r. hit r ≡ false) rs
+      go true q z k = let x : _≡_ {A = ℕ} 0 1 = cc in absurd (omega arith)
+      go false q z k = (q, k z)
+
+-- of two places in ascending rows the first has the lesser row
+asc-at : {R : Type 0} (lt : R → R → Type 0) (d : R) (rs : List R) (i k : ℕ) → Asc lt rs → i < k → k < length rs → lt (getD rs i d) (getD rs k d)
+unfolding Asc
+asc-at lt d [] i k a h b = absurd (not-suc-le-zero b)
+asc-at lt d (r ∷ rs) i zero a h b = absurd (not-suc-le-zero h)
+asc-at lt d (r ∷ rs) zero (suc k) a h b = each-at (lt r) rs k d (a .0) (le-of-suc-le-suc b)
+asc-at lt d (r ∷ rs) (suc i) (suc k) a h b = asc-at lt d rs i k (a .1) (le-of-suc-le-suc h) (le-of-suc-le-suc b)
+
+module _ (n : ℕ) (rs : List NodeRecord) where
+  -- a row that was found is there, and has the number
+  pub row-there : (i : ℕ) → At i ≡ foundNode n rs → (i < length rs) × (nodeAt rs i .node ≡ n)
+  row-there i e =
+      let f = node-found n rs i e in
+      (f .0, eqb-true (nodeAt rs i .node) n (found-hits (λ r. eqb (r .node) n) rs (nodeAt rs i) (f .1)))
+
+  module _ (a : Asc nodeBefore rs) (k : ℕ) (b : k < length rs) where
+    -- and no other row has it
+    row-alone : (i : ℕ) → At i ≡ foundNode n rs → (k ≡ i → ⊥) → n ≡ nodeAt rs k .node → ⊥
+    row-alone i e u q = go (decLt i k)
+      where
+        go : Dec (i < k) → ⊥
+        go (yes h) = let f = row-there i e in let t = asc-at nodeBefore (readNode []) rs i k a h b in omega arith
+        go (no h) = let f = row-there i e in let t = asc-at nodeBefore (readNode []) rs k i a (omega arith) (f .0) in omega arith
+
+    row-missing : Nothing ≡ foundNode n rs → n ≡ nodeAt rs k .node → ⊥
+    row-missing e q = eqb-false (nodeAt rs k .node) n (each-at (λ r. eqb (r .node) n ≡ false) rs k (readNode []) (none-hits (λ r. eqb (r .node) n) rs (node-absent n rs a e)) b) (sym q)
+
+    -- one more where the number is that of the row
+    bumped-at : (m : List ℕ) → length rs ≤ length m → getD (bumped (foundNode n rs) m) k 0 ≡ getD m k 0 + bit (eqb n (nodeAt rs k .node))
+    unfolding bumped
+    bumped-at m h = go (foundNode n rs) refl
+      where
+        at-row : (i : ℕ) → At i ≡ foundNode n rs → {t : Bool} → Says (k ≡ i) t → getD (set m i (getD m i 0 + 1)) k 0 ≡ getD m k 0 + bit (eqb n (nodeAt rs k .node))
+        at-row i e (holds q) =
+            let f = row-there i e in
+            let o : bit (eqb n (nodeAt rs i .node)) ≡ 1 = rw (f .1) (bit-same n) in
+            rw q (getD-set-same m i (getD m i 0 + 1) 0 (omega arith) ∙ omega arith)
+        at-row i e (fails q) = omega (arith, getD-set-other m i k (getD m i 0 + 1) 0 q, bit-apart n (nodeAt rs k .node) (row-alone i e q))
+
+        go : (f : Found) → f ≡ foundNode n rs → getD (bumped f m) k 0 ≡ getD m k 0 + bit (eqb n (nodeAt rs k .node))
+        go (At i) e = at-row i e (says-eqb k i)
+        go Nothing e = omega (arith, bit-apart n (nodeAt rs k .node) (row-missing e))
+
+-- ---- one entry counted
+
+module _ (l : List ℕ) (y : Layout) (r : Ready l y) where
+  pub rows-low : length (shown l .nodes) ≤ 4096
+  rows-low = omega (arith, rooms l y r, count-nodes l)
+
+  pub entries-low : length (shown l .entries) ≤ 4096
+  entries-low = omega (arith, rooms l y r, count-entries l)
+
+  pub row-counter : (n i : ℕ) → At i ≡ foundNode n (shown l .nodes) → i < 4096
+  row-counter n i e = omega (arith, row-there n (shown l .nodes) i e .0, rows-low)
+
+pub bumped-row : (f : Found) (m : List ℕ) (i : ℕ) → At i ≡ f → set m i (getD m i 0 + 1) ≡ bumped f m
+unfolding bumped
+bumped-row f m i e = rw (← e)
+
+pub bumped-none : (f : Found) (m : List ℕ) → Nothing ≡ f → m ≡ bumped f m
+unfolding bumped
+bumped-none f m e = rw (← e)
+
+-- ---- a pass over the entries
+
+pub bumped-length : (f : Found) (m : List ℕ) {r : List ℕ} → r ≡ bumped f m → length r ≡ length m
+unfolding bumped
+bumped-length (At i) m e = rw e (length-set m i (getD m i 0 + 1))
+bumped-length Nothing m e = ap length e
+
+-- key is what the entries are counted by
+module _ (key : Entry → ℕ) (rs : List NodeRecord) (es : List Entry) where
+  -- the first j entries are counted
+  abbrev pub Counted : ℕ → List ℕ → Type 0
+  Counted j m = (k : ℕ) → k < length rs → getD m k 0 ≡ tally j (λ i. eqb (key (entryAt es i)) (nodeAt rs k .node))
+
+  pub counted-start : length rs ≤ 4096 → Counted 0 (replicate 4096 0)
+  unfolding tally
+  counted-start h k b = getD-replicate {A = ℕ} 4096 k 0 0 (omega arith)
+
+  pub counted-turn : Asc nodeBefore rs → (j : ℕ) (m : List ℕ) {x : ℕ} {r : List ℕ} → length rs ≤ length m → x ≡ key (entryAt es j) → r ≡ bumped (foundNode x rs) m → Counted j m → Counted (j + 1) r
+  counted-turn a j m {x} h e q c k b =
+      rw q (bumped-at x rs a k b m h ∙ tally-turn (λ i. eqb (key (entryAt es i)) (nodeAt rs k .node)) j (c k b) (ap (λ (n : ℕ). bit (eqb n (nodeAt rs k .node))) e))
+
+  -- counters stay small
+  pub counted-low : (j : ℕ) (m : List ℕ) → j ≤ 4096 → Counted j m → (k : ℕ) → k < length rs → getD m k 0 ≤ 4096
+  counted-low j m h c k b = omega (arith, c k b, tally-le (λ i. eqb (key (entryAt es i)) (nodeAt rs k .node)) j)
+
+  pub counted-end : (j : ℕ) (m : List ℕ) → j ≡ length es → Counted j m → (k : ℕ) → k < length rs → getD m k 0 ≡ times (λ e. eqb (key e) (nodeAt rs k .node)) es
+  counted-end j m h c k b = c k b ∙ rw h (tally-times (λ e. eqb (key e) (nodeAt rs k .node)) (readEntry []) es)
+
+-- ---- a node's row with its counts
+
+pub good-as : {a b c d : ℕ} {x y : NodeRecord} {t : Bool} → t ≡ nodeGood a b x → a ≡ c → b ≡ d → x ≡ y → t ≡ nodeGood c d y
+good-as e f g h = e ∙ rw (f, g, h)

@@ -1,0 +1,148 @@
+// Rules of nodes that count entries: each pass over the entries counts in a local array, by the rows of the nodes.
+use tables::Found;
+use types::NodeRecord;
+use volume::Layout;
+ghost use mathlib.Core.Path.{_≡_};
+ghost use Prim.Native.Nat.{ℕ, _+_, _≤_, _<_};
+ghost use lib.ListN.{length, getD};
+ghost use lib.Dec.{eqb};
+ghost use Rattle.words.specs.Table.{Asc};
+ghost use Rattle.words.specs.Rule.{bit};
+ghost use Rattle.volume.specs.Volume.{shown};
+ghost use Rattle.volume.specs.Sound.{naming, entriesOf, nodeBefore};
+ghost use Rattle.tables.specs.Tables.{Ready, nodeAt, foundNode};
+ghost use Rattle.soundness.specs.Counted.{directoryGood, nodeGood, nodesGood};
+ghost use Rattle.soundness.specs.Counters.{bumped};
+
+// As many counters as a table may have rows.
+const COUNTERS: usize = types::MOST_ROWS as usize;
+
+const ROOT: u64 = 0;
+
+// The most entries that may name a directory.
+const MOST_NAMES: u64 = 1;
+
+// The flag of a node without a limit.
+const NO_LIMIT: u8 = 0;
+
+// One more for the row of a node. A node that has none counts nowhere: another rule refuses it.
+fn count_node(volume: &[u8], layout: Layout, counts: &mut [u16; COUNTERS], node: u64)
+    requires { ⌜ Ready (now volume) layout × Asc nodeBefore (shown (now volume) .nodes) × ((k : ℕ) → k < length (shown (now volume) .nodes) → getD (now counts) k 0 ≤ 4096) ⌝ }
+    ensures { λ _. ⌜ now (counts .exit) ≡ bumped (foundNode node (shown (now (volume .entry)) .nodes)) (now (counts .entry)) ⌝ }
+{
+    let found = tables::find_node(volume, layout, node);
+    match found {
+        Found::At(row) => {
+            counts[row] += 1;
+        }
+        Found::Nothing => {}
+    }
+}
+
+// How many entries name the node of each row.
+fn count_named(volume: &[u8], layout: Layout) -> [u16; COUNTERS]
+    requires { ⌜ Ready (now volume) layout × Asc nodeBefore (shown (now volume) .nodes) ⌝ }
+    ensures { λ r. ⌜ (length r ≡ 4096) × ((k : ℕ) → k < length (shown (now (volume .entry)) .nodes) → (getD r k 0 ≡ naming (nodeAt (shown (now (volume .entry)) .nodes) k .node) (shown (now (volume .entry)) .entries)) × (getD r k 0 ≤ 4096)) ⌝ }
+{
+    let mut counts = [0u16; COUNTERS];
+    let used = tables::entries_used(volume, layout);
+    let mut i = 0;
+    while i < used {
+        count_node(
+            volume,
+            layout,
+            &mut counts,
+            tables::entry_node(volume, layout, i),
+        );
+        i += 1;
+    }
+    counts
+}
+
+// How many entries the node of each row has.
+fn count_held(volume: &[u8], layout: Layout) -> [u16; COUNTERS]
+    requires { ⌜ Ready (now volume) layout × Asc nodeBefore (shown (now volume) .nodes) ⌝ }
+    ensures { λ r. ⌜ (length r ≡ 4096) × ((k : ℕ) → k < length (shown (now (volume .entry)) .nodes) → (getD r k 0 ≡ entriesOf (nodeAt (shown (now (volume .entry)) .nodes) k .node) (shown (now (volume .entry)) .entries)) × (getD r k 0 ≤ 4096)) ⌝ }
+{
+    let mut counts = [0u16; COUNTERS];
+    let used = tables::entries_used(volume, layout);
+    let mut i = 0;
+    while i < used {
+        count_node(
+            volume,
+            layout,
+            &mut counts,
+            tables::entry_parent(volume, layout, i),
+        );
+        i += 1;
+    }
+    counts
+}
+
+// A directory is named at most once, has no limit, and has a size of its entries: none, if it has no link.
+fn directory_good(named: u64, held: u64, row: NodeRecord) -> bool
+    ensures { λ r. ⌜ r ≡ directoryGood named held row ⌝ }
+{
+    if MOST_NAMES < named {
+        return false;
+    }
+    let limit = row.limit;
+    if types::limit_flag(limit) != NO_LIMIT {
+        return false;
+    }
+    if row.size != held {
+        return false;
+    }
+    if 1 <= row.links {
+        return true;
+    }
+    row.size == 0
+}
+
+// 1 for the root, which has a link that no entry makes; else 0.
+fn root_bit(node: u64) -> u64
+    ensures { λ r. ⌜ (r ≡ bit (eqb node 0)) × (r ≤ 1) ⌝ }
+{
+    if node == ROOT {
+        return 1;
+    }
+    0
+}
+
+// Links are the entries that name the node, and the size is within the file limit.
+fn node_good(named: u64, held: u64, row: NodeRecord) -> bool
+    requires { ⌜ named ≤ 4096 ⌝ }
+    ensures { λ r. ⌜ r ≡ nodeGood named held row ⌝ }
+{
+    if row.links != root_bit(row.node) + named {
+        return false;
+    }
+    let limit = row.limit;
+    if types::file_limit(limit) < row.size {
+        return false;
+    }
+    let kind = row.kind;
+    if types::is_directory(kind) {
+        return directory_good(named, held, row);
+    }
+    true
+}
+
+// Every node's row agrees with the entries. Rows of nodes have to ascend, so that a number has one row.
+pub fn nodes_good(volume: &[u8], layout: Layout) -> bool
+    requires { ⌜ Ready (now volume) layout × Asc nodeBefore (shown (now volume) .nodes) ⌝ }
+    ensures { λ r. ⌜ r ≡ nodesGood (shown (now (volume .entry)) .nodes) (shown (now (volume .entry)) .entries) ⌝ }
+{
+    let named = count_named(volume, layout);
+    let held = count_held(volume, layout);
+    let used = tables::nodes_used(volume, layout);
+    let mut i = 0;
+    while i < used {
+        let row = tables::node_row(volume, layout, i);
+        if !node_good(named[i] as u64, held[i] as u64, row) {
+            return false;
+        }
+        i += 1;
+    }
+    true
+}
