@@ -101,3 +101,9 @@ module _ (l : List ℕ) (y : Layout) (r : Ready l y) (i : ℕ) {at : ℕ} (h : i
       let a : at ≡ atEntries (v .nodeRoom) (v .chunkRoom) + 280 * i = e ∙ ap (λ (z : Layout). z .entries + 280 * i) (r .layout) in
       let q : part l at 280 ≡ layEntry (entryAt (v .entries) i) = rw a (rw (r .formed .same) at (entry-laid v (spaced v f) i (readEntry []) h)) in
       omega (arith, entry-formed l at (entryAt (v .entries) i) (each-at EntryFits (v .entries) i (readEntry []) (f .entryRows) h) q .most)
+
+-- ---- the chunk area
+
+pub area-long : (l : List ℕ) (y : Layout) (r : Ready l y) → length l - y .bytes ≡ length (shown l .bytes)
+unfolding shown
+area-long l y r = rw (rooms l y r .bytes) (sym (length-drop (atBytes (word l 8) (word l 16) (word l 24)) l))

@@ -19,7 +19,7 @@ ghost use lib.ListN.{length, take, drop, set};
 ghost use Rattle.words.specs.Table.{insertAt, removeAt, lead, Asc};
 ghost use Rattle.types.specs.Sizes.{mostName};
 ghost use Rattle.volume.specs.Volume.{shown, laid, withNext, withNodes, withEntries, withChunks};
-ghost use Rattle.volume.specs.Search.{entryUnder};
+ghost use Rattle.volume.specs.Search.{entryUnder, chunkUnder};
 ghost use Rattle.volume.specs.Sound.{nodeBefore, entryBefore, chunkBefore};
 ghost use Rattle.tables.specs.Tables.{Ready, nodeAt, entryAt, chunkAt, foundNode, foundChunk, sized, linked, limited};
 
@@ -47,6 +47,22 @@ pub fn chunks_used(volume: &[u8], layout: Layout) -> usize
     ensures { λ r. ⌜ (r ≡ length (shown (now (volume .entry)) .chunks)) × (r ≤ 4096) ⌝ }
 {
     words::get64(volume, volume::CHUNKS_USED) as usize
+}
+
+// The rows that the chunk table has room for.
+pub fn chunk_room(volume: &[u8], layout: Layout) -> usize
+    requires { ⌜ Ready (now volume) layout ⌝ }
+    ensures { λ r. ⌜ (r ≡ shown (now (volume .entry)) .chunkRoom) × (r ≤ 4096) ⌝ }
+{
+    words::get64(volume, volume::CHUNK_ROOM) as usize
+}
+
+// The bytes of the chunk area.
+pub fn area_size(volume: &[u8], layout: Layout) -> usize
+    requires { ⌜ Ready (now volume) layout ⌝ }
+    ensures { λ r. ⌜ r ≡ length (shown (now (volume .entry)) .bytes) ⌝ }
+{
+    volume.len() - layout.bytes
 }
 
 pub fn node_row(volume: &[u8], layout: Layout, i: usize) -> NodeRecord
@@ -132,6 +148,16 @@ pub fn first_entry(volume: &[u8], layout: Layout, parent: u64, index: u64) -> us
     let used = entries_used(volume, layout);
     let base = layout.entries;
     volume::seek_entry(volume, base, used, parent, index)
+}
+
+// The first chunk row at or above (node, index).
+pub fn first_chunk(volume: &[u8], layout: Layout, node: u64, index: u64) -> usize
+    requires { ⌜ Ready (now volume) layout × Asc chunkBefore (shown (now volume) .chunks) ⌝ }
+    ensures { λ r. ⌜ (r ≡ lead (chunkUnder node index) (shown (now (volume .entry)) .chunks)) × (r ≤ length (shown (now (volume .entry)) .chunks)) ⌝ }
+{
+    let used = chunks_used(volume, layout);
+    let base = layout.chunks;
+    volume::seek_chunk(volume, base, used, node, index)
 }
 
 // The row of a node's chunk, by halving.

@@ -6,3 +6,4 @@ pub mod Search
 pub mod Fresh
 pub mod Sound
 pub mod RowTests
+pub mod Steps
