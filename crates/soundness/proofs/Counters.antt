@@ -9,7 +9,7 @@ use native.Mathlib.Nat.{not-suc-le-zero, le-of-suc-le-suc}
 use native.Mathlib.Decide.{decLt}
 use native.Mathlib.Omega.{arith}
 use lib.Dec.{eqb}
-use lib.ListN.{length, getD, set, replicate, getD-replicate, length-set}
+use lib.ListN.{length, getD, set, replicate, getD-replicate, length-replicate, length-set}
 use lib.Seq.{getD-set-same, getD-set-other}
 use borrow.Author.Tests.{eqb-true, eqb-false}
 use Rattle.words.specs.Rule.{pick, bit, tally, times}
@@ -98,10 +98,10 @@ module _ (n : ℕ) (rs : List NodeRecord) where
 -- ---- one entry counted
 
 module _ (l : List ℕ) (y : Layout) (r : Ready l y) where
-  pub rows-low : length (shown l .nodes) ≤ 4096
+  rows-low : length (shown l .nodes) ≤ 4096
   rows-low = omega (arith, rooms l y r, count-nodes l)
 
-  pub entries-low : length (shown l .entries) ≤ 4096
+  entries-low : length (shown l .entries) ≤ 4096
   entries-low = omega (arith, rooms l y r, count-entries l)
 
   pub row-counter : (n i : ℕ) → At i ≡ foundNode n (shown l .nodes) → i < 4096
@@ -117,31 +117,40 @@ bumped-none f m e = rw (← e)
 
 -- ---- a pass over the entries
 
-pub bumped-length : (f : Found) (m : List ℕ) {r : List ℕ} → r ≡ bumped f m → length r ≡ length m
+bumped-length : (f : Found) (m : List ℕ) → length (bumped f m) ≡ length m
 unfolding bumped
-bumped-length (At i) m e = rw e (length-set m i (getD m i 0 + 1))
-bumped-length Nothing m e = ap length e
+bumped-length (At i) m = length-set m i (getD m i 0 + 1)
+bumped-length Nothing m = refl
 
 -- key is what the entries are counted by
-module _ (key : Entry → ℕ) (rs : List NodeRecord) (es : List Entry) where
-  -- the first j entries are counted
+module _ (key : Entry → ℕ) (l : List ℕ) where
+  abbrev hasNumber : ℕ → Entry → Bool
+  hasNumber k e = eqb (key e) (nodeAt (shown l .nodes) k .node)
+
+  -- the first i entries are counted
   abbrev pub Counted : ℕ → List ℕ → Type 0
-  Counted j m = (k : ℕ) → k < length rs → getD m k 0 ≡ tally j (λ i. eqb (key (entryAt es i)) (nodeAt rs k .node))
+  Counted i m =
+      (i ≤ length (shown l .entries)) × (length m ≡ 4096) × ((k : ℕ) → k < length (shown l .nodes) → getD m k 0 ≡ tally i (λ j. hasNumber k (entryAt (shown l .entries) j)))
 
-  pub counted-start : length rs ≤ 4096 → Counted 0 (replicate 4096 0)
-  unfolding tally
-  counted-start h k b = getD-replicate {A = ℕ} 4096 k 0 0 (omega arith)
+  module _ (y : Layout) (r : Ready l y) where
+    pub counted-start : Counted 0 (replicate 4096 0)
+    unfolding tally
+    counted-start = (omega arith, length-replicate {A = ℕ} 4096 0, λ k b. getD-replicate {A = ℕ} 4096 k 0 0 (omega (arith, rows-low l y r)))
 
-  pub counted-turn : Asc nodeBefore rs → (j : ℕ) (m : List ℕ) {x : ℕ} {r : List ℕ} → length rs ≤ length m → x ≡ key (entryAt es j) → r ≡ bumped (foundNode x rs) m → Counted j m → Counted (j + 1) r
-  counted-turn a j m {x} h e q c k b =
-      rw q (bumped-at x rs a k b m h ∙ tally-turn (λ i. eqb (key (entryAt es i)) (nodeAt rs k .node)) j (c k b) (ap (λ (n : ℕ). bit (eqb n (nodeAt rs k .node))) e))
+    module _ (i : ℕ) (m : List ℕ) (c : Counted i m) where
+      -- counters stay small
+      pub counted-low : (k : ℕ) → k < length (shown l .nodes) → getD m k 0 ≤ 4096
+      counted-low k b = omega (arith, c .0, c .2 k b, tally-le (λ j. hasNumber k (entryAt (shown l .entries) j)) i, entries-low l y r)
 
-  -- counters stay small
-  pub counted-low : (j : ℕ) (m : List ℕ) → j ≤ 4096 → Counted j m → (k : ℕ) → k < length rs → getD m k 0 ≤ 4096
-  counted-low j m h c k b = omega (arith, c k b, tally-le (λ i. eqb (key (entryAt es i)) (nodeAt rs k .node)) j)
+      pub counted-turn : Asc nodeBefore (shown l .nodes) → i < length (shown l .entries) → {x : ℕ} {t : List ℕ} → x ≡ key (entryAt (shown l .entries) i) → t ≡ bumped (foundNode x (shown l .nodes)) m → Counted (i + 1) t
+      counted-turn a h {x} e q = (
+        omega arith,
+        ap length q ∙ bumped-length (foundNode x (shown l .nodes)) m ∙ c .1,
+        λ k b. rw q (bumped-at x (shown l .nodes) a k b m (omega (arith, c .1, rows-low l y r)) ∙ tally-turn (λ j. hasNumber k (entryAt (shown l .entries) j)) i (c .2 k b) (ap (λ (n : ℕ). bit (eqb n (nodeAt (shown l .nodes) k .node))) e)),
+      )
 
-  pub counted-end : (j : ℕ) (m : List ℕ) → j ≡ length es → Counted j m → (k : ℕ) → k < length rs → getD m k 0 ≡ times (λ e. eqb (key e) (nodeAt rs k .node)) es
-  counted-end j m h c k b = c k b ∙ rw h (tally-times (λ e. eqb (key e) (nodeAt rs k .node)) (readEntry []) es)
+      pub counted-end : i ≡ length (shown l .entries) → (length m ≡ 4096) × ((k : ℕ) → k < length (shown l .nodes) → (getD m k 0 ≡ times (hasNumber k) (shown l .entries)) × (getD m k 0 ≤ 4096))
+      counted-end h = (c .1, λ k b. (c .2 k b ∙ rw h (tally-times (hasNumber k) (readEntry []) (shown l .entries)), counted-low k b))
 
 -- ---- a node's row with its counts
 

@@ -1,19 +1,17 @@
 use Rattle.soundness.proofs.nodes.count_named.Statement.{statement}
 use Rattle.soundness.proofs.nodes.count_named.Tie as tie
-use denote.Ref.{now}
-use Rattle.volume.specs.Rows.{Entry}
 use borrow.Author.Needs.{needs}
-use mathlib.Core.Path.{_≡_, _∙_}
-use Prim.Native.Nat.{_-_, _≤_}
+use denote.Ref.{now}
+use Prim.Native.Nat.{_-_}
 use native.Mathlib.Omega.{arith}
 use lib.ListN.{length}
+use Rattle.volume.specs.Rows.{Entry}
 use Rattle.volume.specs.Volume.{shown}
 use Rattle.volume.specs.Sound.{naming}
-use Rattle.soundness.proofs.Counters.{Counted, rows-low, entries-low, bumped-length, counted-start, counted-turn, counted-low, counted-end}
+use Rattle.soundness.proofs.Counters.{Counted, counted-start, counted-turn, counted-low, counted-end}
 
 abbrev Inv-loop : tie.InvT-loop
-Inv-loop volume layout counts₀ used i₀ counts i =
-    (i ≤ length (shown volume .entries)) × (length counts ≡ 4096) × Counted (λ (e : Entry). e .node) (shown volume .nodes) (shown volume .entries) i counts
+Inv-loop volume layout counts₀ used i₀ counts i = Counted (λ (e : Entry). e .node) volume i counts
 
 abbrev μ-loop : tie.MeasureT-loop
 μ-loop volume layout counts₀ used i₀ counts i = length (shown volume .entries) - i
@@ -23,30 +21,32 @@ entries-used-requires c κs = search needs
 
 loop-holds : tie.Need-loop-holds Inv-loop μ-loop
 loop-holds c =
-    (search needs, search needs, counted-start (λ (e : Entry). e .node) ((shown ((now (c .before .before .args .volume))) .nodes)) ((shown ((now (c .before .before .args .volume))) .entries)) (rows-low ((now (c .before .before .args .volume))) (c .before .before .args .layout) (c .before .before .pre .0)))
+    counted-start (λ (e : Entry). e .node) (now (c .before .before .args .volume)) (c .before .before .args .layout) (c .before .before .pre .0)
 
 entry-node-requires : tie.Need-entry-node-requires Inv-loop μ-loop
 entry-node-requires c κs =
-    (c .before .before .before .before .before .pre .0, omega (arith, c .before .before .before .entries-used .ensures .0))
+    (c .before .before .before .before .before .pre .0, ((omega (arith, c .before .before .loop .inv .0, c .before .before .before .entries-used .ensures .0, c .before .before .before .entries-used .ensures .1))))
 
 count-node-requires : tie.Need-count-node-requires Inv-loop μ-loop
 count-node-requires c κs =
-    (c .before .before .before .before .before .before .pre .0, c .before .before .before .before .before .before .pre .1, counted-low (λ (e : Entry). e .node) ((shown ((now (c .before .before .before .before .before .before .args .volume))) .nodes)) ((shown ((now (c .before .before .before .before .before .before .args .volume))) .entries)) (c .before .before .before .loop .i) (c .before .before .before .loop .counts) (omega (arith, c .before .before .before .loop .inv .0, entries-low ((now (c .before .before .before .before .before .before .args .volume))) (c .before .before .before .before .before .before .args .layout) (c .before .before .before .before .before .before .pre .0))) (c .before .before .before .loop .inv .2))
+    (c .before .before .before .before .before .before .pre .0, c .before .before .before .before .before .before .pre .1, counted-low (λ (e : Entry). e .node) (now (c .before .before .before .before .before .before .args .volume)) (c .before .before .before .before .before .before .args .layout) (c .before .before .before .before .before .before .pre .0) (c .before .before .before .loop .i) (c .before .before .before .loop .counts) (c .before .before .before .loop .inv))
 
 add-i : tie.Need-add-i Inv-loop μ-loop
-add-i c = omega (arith, c .before .before .before .before .before .entries-used .ensures .1)
+add-i c =
+    ((omega (arith, c .before .before .before .before .loop .inv .0, c .before .before .before .before .before .entries-used .ensures .0, c .before .before .before .before .before .entries-used .ensures .1)))
 
 loop-less : tie.Need-loop-less Inv-loop μ-loop
-loop-less c = omega (arith, c .before .before .before .before .before .entries-used .ensures .0)
+loop-less c =
+    ((omega (arith, c .before .before .before .before .loop .inv .0, c .before .before .before .before .before .entries-used .ensures .0, c .before .before .before .before .before .entries-used .ensures .1)))
 
 loop-again : tie.Need-loop-again Inv-loop μ-loop
 loop-again c =
-    (omega (arith, c .before .before .before .before .before .entries-used .ensures .0), bumped-length _ (c .before .before .before .before .loop .counts) (c .count-node .ensures) ∙ c .before .before .before .before .loop .inv .1, counted-turn (λ (e : Entry). e .node) ((shown ((now (c .before .before .before .before .before .before .before .args .volume))) .nodes)) ((shown ((now (c .before .before .before .before .before .before .before .args .volume))) .entries)) (c .before .before .before .before .before .before .before .pre .1) (c .before .before .before .before .loop .i) (c .before .before .before .before .loop .counts) (omega (arith, rows-low ((now (c .before .before .before .before .before .before .before .args .volume))) (c .before .before .before .before .before .before .before .args .layout) (c .before .before .before .before .before .before .before .pre .0), c .before .before .before .before .loop .inv .1)) (c .before .entry-node .ensures) (c .count-node .ensures) (c .before .before .before .before .loop .inv .2))
+    counted-turn (λ (e : Entry). e .node) (now (c .before .before .before .before .before .before .before .args .volume)) (c .before .before .before .before .before .before .before .args .layout) (c .before .before .before .before .before .before .before .pre .0) (c .before .before .before .before .loop .i) (c .before .before .before .before .loop .counts) (c .before .before .before .before .loop .inv) (c .before .before .before .before .before .before .before .pre .1) ((omega (arith, c .before .before .before .before .loop .inv .0, c .before .before .before .before .before .entries-used .ensures .0, c .before .before .before .before .before .entries-used .ensures .1))) (c .before .entry-node .ensures) (c .count-node .ensures)
 
 returns : tie.Need-returns Inv-loop μ-loop
 unfolding naming
 returns c =
-    (c .before .loop .inv .1, λ k b. (counted-end (λ (e : Entry). e .node) ((shown ((now (c .before .before .before .before .args .volume))) .nodes)) ((shown ((now (c .before .before .before .before .args .volume))) .entries)) (c .before .loop .i) (c .before .loop .counts) (omega (arith, c .before .before .entries-used .ensures .0)) (c .before .loop .inv .2) k b, counted-low (λ (e : Entry). e .node) ((shown ((now (c .before .before .before .before .args .volume))) .nodes)) ((shown ((now (c .before .before .before .before .args .volume))) .entries)) (c .before .loop .i) (c .before .loop .counts) (omega (arith, entries-low ((now (c .before .before .before .before .args .volume))) (c .before .before .before .before .args .layout) (c .before .before .before .before .pre .0))) (c .before .loop .inv .2) k b))
+    counted-end (λ (e : Entry). e .node) (now (c .before .before .before .before .args .volume)) (c .before .before .before .before .args .layout) (c .before .before .before .before .pre .0) (c .before .loop .i) (c .before .loop .counts) (c .before .loop .inv) ((omega (arith, c .before .loop .inv .0, c .before .before .entries-used .ensures .0, c .before .before .entries-used .ensures .1)))
 
 pub count-named-spec : {M : Type 1} → statement M
 count-named-spec =
