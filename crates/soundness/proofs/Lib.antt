@@ -3,3 +3,4 @@ pub mod Places
 pub mod Orders
 pub mod Accounted
 pub mod FreeWords
+pub mod Owned

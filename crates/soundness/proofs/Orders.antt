@@ -91,7 +91,7 @@ says-unnamed es =
     says-map (none-pass (λ e. eqb (e .node) 0) es) (pass-none (λ e. eqb (e .node) 0) es)
     (each-places (λ e. eqb (e .node) 0 ≡ false) (readEntry []) (λ e. not (eqb (e .node) 0)) (λ e. says-opposite (eqb (e .node) 0)) es)
 
-says-directory : (k : FileType) → Says (k ≡ Directory) (eqb (kindByte k) 0)
+pub says-directory : (k : FileType) → Says (k ≡ Directory) (eqb (kindByte k) 0)
 says-directory Directory = holds refl
 says-directory RegularFile = fails (λ e. let k : _≡_ {A = ℕ} 1 0 = ap kindByte e in omega arith)
 says-directory SymbolicLink = fails (λ e. let k : _≡_ {A = ℕ} 2 0 = ap kindByte e in omega arith)
