@@ -25,6 +25,11 @@ pub says-next : (s next area c : ℕ) → Says ((next % s ≡ 0) × ((next ≤ a
 unfolding nextFits
 says-next s next area c = says-both (says-eqb (next % s) 0) (says-both (says-leb next area) (says-leb next (c * s)))
 
+-- a multiple below word 3
+pub says-lined : (s next p : ℕ) → Says ((p % s ≡ 0) × (p < next)) (lined s next p)
+unfolding lined
+says-lined s next p = says-both (says-eqb (p % s) 0) (says-ltb p next)
+
 tally-none : (f : ℕ → Bool) (n : ℕ) → ((i : ℕ) → i < n → f i ≡ false) → tally n f ≡ 0
 unfolding tally bit
 tally-none f zero h = refl
@@ -97,17 +102,13 @@ module _ (s next : ℕ) (pos : 0 < s) (al : next % s ≡ 0) (cs : List ChunkRow)
     ),
   )
 
-  says-lined : (p : ℕ) → Says (Lined p) (lined s next p)
-  unfolding lined
-  says-lined p = says-both (says-eqb (p % s) 0) (says-ltb p next)
-
   -- the tests say exactly that every pointer ever given out is live once or free once
   pub says-pointers : Says ((p : ℕ) → count p (map (λ c. c .pointer) cs) + count p ws ≡ due s next p) (pointersGood s next cs ws)
   unfolding pointersGood rowsLined freeLined pointersOnce
   says-pointers =
       says-map (λ t p. rw (← rows-counted cs p, ← free-counted ws p) (account-of t p)) (λ a. of-account (λ p. rw (rows-counted cs p, free-counted ws p) (a p)))
-      (says-both (says-upto (λ i. Lined (chunkAt cs i .pointer)) (λ i. lined s next (chunkAt cs i .pointer)) (length cs) (λ i b. says-lined (chunkAt cs i .pointer)))
-      (says-both (says-upto (λ i. Lined (getD ws i 0)) (λ i. lined s next (getD ws i 0)) (length ws) (λ i b. says-lined (getD ws i 0)))
+      (says-both (says-upto (λ i. Lined (chunkAt cs i .pointer)) (λ i. lined s next (chunkAt cs i .pointer)) (length cs) (λ i b. says-lined s next (chunkAt cs i .pointer)))
+      (says-both (says-upto (λ i. Lined (getD ws i 0)) (λ i. lined s next (getD ws i 0)) (length ws) (λ i b. says-lined s next (getD ws i 0)))
       (says-upto (λ q. rowsStanding cs (q * s) + freeStanding ws (q * s) ≡ 1) (λ q. eqb (rowsStanding cs (q * s) + freeStanding ws (q * s)) 1) (next / s) (λ q b. says-eqb (rowsStanding cs (q * s) + freeStanding ws (q * s)) 1))))
 
 -- ---- for the code

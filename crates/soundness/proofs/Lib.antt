@@ -2,7 +2,9 @@ pub mod Frames
 pub mod Places
 pub mod Orders
 pub mod Related
-pub mod Accounted
-pub mod FreeWords
 pub mod Counters
 pub mod Counts
+pub mod Accounted
+pub mod FreeWords
+pub mod Owned
+pub mod Checked

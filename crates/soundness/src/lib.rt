@@ -1,22 +1,10 @@
 // Whether a memory is a sound volume: one function for each rule of the scope, in its order.
+mod check;
 mod entries;
 mod frame;
 mod nodes;
 mod order;
+mod owners;
 mod pointers;
 
-pub use entries::names_once;
-pub use entries::parents_good;
-pub use entries::targets_found;
-pub use frame::is_framed;
-pub use nodes::nodes_good;
-pub use order::chunks_ascend;
-pub use order::entries_ascend;
-pub use order::entries_indexed;
-pub use order::is_rooted;
-pub use order::names_allowed;
-pub use order::nodes_ascend;
-pub use order::nodes_below_next;
-pub use order::root_unnamed;
-pub use pointers::next_fits;
-pub use pointers::pointers_good;
+pub use check::sound;

@@ -46,12 +46,16 @@ module _ (l : List ℕ) where
   unfolding shown
   count-chunks = length-table readChunk 24 l (atChunks (word l 8) (word l 16) (word l 24)) (word l 48)
 
+  pub count-bytes : length (shown l .bytes) ≡ length l - atBytes (word l 8) (word l 16) (word l 24)
+  unfolding shown
+  count-bytes = length-drop (atBytes (word l 8) (word l 16) (word l 24)) l
+
   module _ (y : Layout) (r : Ready l y) where
     pub rooms : Rooms l y
     unfolding shown
     rooms =
         let f = r .formed .fits in
-        let d : length (shown l .bytes) ≡ length l - atBytes (word l 8) (word l 16) (word l 24) = length-drop (atBytes (word l 8) (word l 16) (word l 24)) l in
+        let d = count-bytes in
         record {
           nodes = ap (λ z. z .nodes) (r .layout);
           entries = ap (λ z. z .entries) (r .layout);

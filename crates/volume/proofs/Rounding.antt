@@ -2,7 +2,7 @@
 -- Assumes nothing.
 use mathlib.Core.Path.{_≡_}
 use Prim.Native.Nat.{ℕ, suc, _+_, _-_, _*_, _/_, _≤_, _<_}
-use native.Mathlib.Nat.{le-div-iff-mul-le, div-lt-iff-lt-mul, suc-mul}
+use native.Mathlib.Nat.{le-div-iff-mul-le, div-lt-iff-lt-mul, le-mul-of-pos-right, suc-mul}
 use native.Mathlib.Decide.{decLt}
 use native.Mathlib.Omega.{arith}
 use Rattle.volume.specs.Sound.{roundUp}
@@ -26,3 +26,7 @@ module _ (S z i : ℕ) (pos : 0 < S) where
       go : Dec (i * S < z) → i * S < z
       go (yes k) = k
       go (no k) = absurd (omega (arith, up-ge (omega arith)))
+
+-- a file has at most a chunk for each byte
+pub up-le : (S z : ℕ) → 0 < S → roundUp S z ≤ z
+up-le S z pos = up-ge S z z pos (le-mul-of-pos-right z pos)

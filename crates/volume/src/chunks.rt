@@ -2,12 +2,14 @@
 use crate::ChunkRow;
 use crate::pairs::pair_before;
 ghost use mathlib.Core.Path.{_≡_};
-ghost use Prim.Native.Nat.{_+_, _*_, _≤_};
+ghost use Prim.Native.Nat.{_+_, _*_, _≤_, _<_};
 ghost use lib.ListN.{length};
 ghost use Rattle.words.specs.Bytes.{part, over};
 ghost use Rattle.words.specs.Table.{table, lead, Falls};
+ghost use Rattle.types.specs.Sizes.{mostSize};
 ghost use Rattle.volume.specs.Rows.{layChunk, readChunk};
 ghost use Rattle.volume.specs.Search.{chunkUnder};
+ghost use Rattle.volume.specs.Sound.{roundUp};
 
 // Where the fields of a row start, behind its node.
 const INDEX: usize = 8;
@@ -63,4 +65,12 @@ pub fn seek_chunk(volume: &[u8], base: usize, used: usize, node: u64, index: u64
         }
     }
     low
+}
+
+// How many chunks a file of size bytes has room for: its chunks have lower indexes.
+pub fn round_up(size: u64, chunk: u64) -> u64
+    requires { ⌜ (0 < chunk) × (chunk ≤ 65536) × (size ≤ mostSize) ⌝ }
+    ensures { λ r. ⌜ (r ≡ roundUp chunk size) × (r ≤ size) ⌝ }
+{
+    (size + (chunk - 1)) / chunk
 }

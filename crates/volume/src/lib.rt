@@ -7,6 +7,7 @@ mod nodes;
 mod pairs;
 
 pub use chunks::read_chunk;
+pub use chunks::round_up;
 pub use chunks::seek_chunk;
 pub use chunks::write_chunk;
 pub use entries::entry_formed;

@@ -10,7 +10,7 @@ use native.Mathlib.Omega.{arith}
 use lib.Dec.{eqb}
 use borrow.Author.Tests.{eq-eqb, ne-eqb}
 use lib.ListN.{length, take, drop, getD}
-use lib.Seq.{take-add, take-all, take-suc}
+use lib.Seq.{take-add, take-all, take-suc, getD-drop}
 use Rattle.words.specs.Bytes.{part, zeros, value, num, Bytes}
 use Rattle.words.specs.Rule.{both, same, allZero}
 use Rattle.words.proofs.Parts.{cut, part-add, length-part}
@@ -64,6 +64,25 @@ pub says-zero : (l : List ℕ) → Says (l ≡ zeros (length l)) (allZero l)
 unfolding allZero zeros
 says-zero [] = holds refl
 says-zero (x ∷ l) = says-map (λ p. ap (λ b. b ∷ l) (p .0) ∙ ap (λ r. 0 ∷ r) (p .1)) (λ e. (cc, cc)) (says-both (says-eqb x 0) (says-zero l))
+
+-- the same, byte by byte
+says-zero-front : (n : ℕ) (l : List ℕ) → Says ((i : ℕ) → i < n → getD l i 0 ≡ 0) (allZero (take n l))
+unfolding allZero
+says-zero-front zero l = holds (λ i b. absurd (omega arith))
+says-zero-front (suc n) [] = holds (λ i b. refl)
+says-zero-front (suc n) (x ∷ l) = says-map join cut (says-both (says-eqb x 0) (says-zero-front n l))
+  where
+    join : (x ≡ 0) × ((i : ℕ) → i < n → getD l i 0 ≡ 0) → (i : ℕ) → i < suc n → getD (x ∷ l) i 0 ≡ 0
+    join h zero b = h .0
+    join h (suc i) b = h .1 i (omega arith)
+
+    cut : ((i : ℕ) → i < suc n → getD (x ∷ l) i 0 ≡ 0) → (x ≡ 0) × ((i : ℕ) → i < n → getD l i 0 ≡ 0)
+    cut h = (h 0 (omega arith), λ i b. h (suc i) (omega arith))
+
+-- a part, byte by byte: past the end of the list there are only zeros
+pub says-zero-part : (l : List ℕ) (at n : ℕ) → Says ((i : ℕ) → i < n → getD l (at + i) 0 ≡ 0) (allZero (part l at n))
+unfolding part
+says-zero-part l at n = says-map (λ h i b. sym (getD-drop at l i 0) ∙ h i b) (λ h i b. getD-drop at l i 0 ∙ h i b) (says-zero-front n (drop at l))
 
 both-assoc : (t a b : Bool) → both t (both a b) ≡ both (both t a) b
 unfolding both

@@ -1,0 +1,118 @@
+-- What the tests of chunk rows mean, and what their code finds.
+-- Assumes nothing.
+use mathlib.Core.Path.{_≡_, refl, ap, _∙_}
+use mathlib.Core.Bool.{Bool, true, false}
+use mathlib.Core.List.{List, []}
+use Prim.Native.Nat.{ℕ, _+_, _-_, _*_, _/_, _%_, _≤_, _<_}
+use native.Mathlib.Nat.{le-div-iff-mul-le}
+use native.Mathlib.Omega.{arith}
+use lib.Dec.{eqb}
+use lib.ListN.{length, take, drop, getD}
+use lib.Seq.{drop-drop}
+use Rattle.words.specs.Bytes.{part}
+use Rattle.words.specs.Rule.{either, allZero}
+use Rattle.words.specs.Table.{Each, Asc, find}
+use Rattle.words.proofs.Rules.{Says, holds, fails, says-map, says-both, says-and, says-not, says-ltb, says-upto, says-true}
+use Rattle.words.proofs.Blocks.{says-zero-part}
+use Rattle.words.proofs.Multiples.{parts, step-apart, gap}
+use Rattle.types.specs.declared.NodeRecord.{NodeRecord}
+use Rattle.allocator.specs.Opening.{lined}
+use Rattle.volume.specs.declared.Layout.{Layout}
+use Rattle.volume.specs.declared.ChunkRow.{ChunkRow}
+use Rattle.volume.specs.Rows.{readChunk}
+use Rattle.volume.specs.Volume.{Volume, shown}
+use Rattle.volume.specs.Sound.{roundUp, node, nodeBefore, ChunkOwned, Owned}
+use Rattle.volume.proofs.Rounding.{lt-up}
+use Rattle.tables.specs.Tables.{Ready, nodeAt, chunkAt, foundNode}
+use Rattle.tables.specs.declared.Found.{Found}
+use Rattle.tables.specs.declared.Found.the-variants.{At, Nothing}
+use Rattle.tables.proofs.Rooms.{rooms, count-bytes}
+use Rattle.tables.proofs.Finds.{node-found, node-absent}
+use Rattle.soundness.specs.Pointers.{rowsLined}
+use Rattle.soundness.specs.Owners.{tailZero, ownedBy, ownedWhere, chunksOwned}
+use Rattle.soundness.proofs.Frames.{zero-part}
+use Rattle.soundness.proofs.Accounted.{says-lined}
+use Rattle.soundness.proofs.Orders.{says-directory}
+use Rattle.soundness.proofs.Places.{each-places}
+
+-- ---- what the code finds
+
+-- the byte area, behind the tables
+module _ (l : List ℕ) (y : Layout) (r : Ready l y) where
+  pub chunk-inside : (p s : ℕ) → p + s ≤ length (shown l .bytes) → y .bytes + p + s ≤ length l
+  chunk-inside p s h = omega (arith, count-bytes l, rooms l y r)
+
+  -- a part that was lent of it
+  pub tail-lent : (p n : ℕ) {at : ℕ} {b : Bool} → at ≡ y .bytes + p → b ≡ allZero (take (at + n - at) (drop at l)) → b ≡ allZero (part (shown l .bytes) p n)
+  unfolding shown part
+  tail-lent p n {at} e q = zero-part l at n q ∙ rw (e, rooms l y r .bytes, drop-drop p)
+
+-- a row, and where the row of its node was found
+module _ (s : ℕ) (bytes : List ℕ) (rs : List NodeRecord) {c d : ChunkRow} {f : Found} (p : c ≡ d) (q : f ≡ foundNode (c .node) rs) where
+  pub no-owner : f ≡ Nothing → false ≡ ownedWhere s bytes rs d (foundNode (d .node) rs)
+  unfolding ownedWhere
+  no-owner e = rw (← p, ← q, e)
+
+  pub by-owner : {i : ℕ} {r : NodeRecord} {b : Bool} → f ≡ At i → r ≡ nodeAt rs i → b ≡ ownedBy s bytes c r → b ≡ ownedWhere s bytes rs d (foundNode (d .node) rs)
+  unfolding ownedWhere
+  by-owner e k h = h ∙ rw (k, ← p, ← q, e)
+
+-- ---- what the tests mean
+
+module _ (s : ℕ) (pos : 0 < s) (bytes : List ℕ) (c : ChunkRow) where
+  abbrev TailZero : ℕ → Type 0
+  TailZero z = (i : ℕ) → i < s → z ≤ c .index * s + i → getD bytes (c .pointer + i) 0 ≡ 0
+
+  -- the chunk that the size ends in
+  says-last : (z : ℕ) → c .index ≡ z / s → Says (TailZero z) (allZero (part bytes (c .pointer + z % s) (s - z % s)))
+  says-last z e = says-map fore back (says-zero-part bytes (c .pointer + z % s) (s - z % s))
+    where
+      m : c .index * s ≡ z / s * s
+      m = ap (λ (k : ℕ). k * s) e
+
+      fore : ((i : ℕ) → i < s - z % s → getD bytes (c .pointer + z % s + i) 0 ≡ 0) → TailZero z
+      fore h i b k =
+          let q : c .pointer + z % s + (i - z % s) ≡ c .pointer + i = omega (arith, parts pos z, m) in
+          rw q at (h (i - z % s) (omega (arith, parts pos z)))
+
+      back : TailZero z → (i : ℕ) → i < s - z % s → getD bytes (c .pointer + z % s + i) 0 ≡ 0
+      back h i b =
+          let q : c .pointer + (z % s + i) ≡ c .pointer + z % s + i = omega arith in
+          rw q at (h (z % s + i) (omega arith) (omega (arith, parts pos z, m)))
+
+  says-tail : (z : ℕ) → c .index < roundUp s z → Says (TailZero z) (tailZero s bytes c z)
+  unfolding tailZero either
+  says-tail z below = go (says-ltb (c .index) (z / s))
+    where
+      go : {t : Bool} → Says (c .index < z / s) t → Says (TailZero z) (either t (allZero (part bytes (c .pointer + z % s) (s - z % s))))
+      go (holds h) = holds (λ i b k. absurd (omega (arith, step-apart s (c .index) (z / s) h, parts pos z)))
+      go (fails h) = says-last z (let k = lt-up s z (c .index) pos below in let a : c .index ≤ z / s = le-div-iff-mul-le pos .1 (omega arith) in omega arith)
+
+  says-by : (r : NodeRecord) → Says (ChunkOwned s bytes c r) (ownedBy s bytes c r)
+  unfolding ownedBy
+  says-by r =
+      says-map (λ p. record { file = p .0; below = p .1 .0; zeros = p .1 .1 }) (λ o. (o .file, (o .below, o .zeros)))
+      (says-both (says-not (says-directory (r .kind))) (says-and (says-ltb (c .index) (roundUp s (r .size))) (says-tail (r .size))))
+
+  says-where : (rs : List NodeRecord) → Asc nodeBefore rs → Says (Owned s bytes c (find (λ r. eqb (r .node) (c .node)) rs)) (ownedWhere s bytes rs c (foundNode (c .node) rs))
+  unfolding ownedWhere
+  says-where rs a = go (foundNode (c .node) rs) refl
+    where
+      go : (f : Found) → f ≡ foundNode (c .node) rs → Says (Owned s bytes c (find (λ r. eqb (r .node) (c .node)) rs)) (ownedWhere s bytes rs c f)
+      go (At i) e = rw (node-found (c .node) rs i e .1) (says-by (nodeAt rs i))
+      go Nothing e = rw (node-absent (c .node) rs a e) (fails (λ z. z))
+
+pub says-owned : (v : Volume) → 0 < v .allocator .chunkSize → Asc nodeBefore (v .nodes)
+    → Says (Each (λ c. Owned (v .allocator .chunkSize) (v .bytes) c (node (c .node) v)) (v .chunks)) (chunksOwned (v .allocator .chunkSize) (v .bytes) (v .nodes) (v .chunks))
+unfolding chunksOwned node
+says-owned v pos a =
+    each-places (λ c. Owned (v .allocator .chunkSize) (v .bytes) c (node (c .node) v)) (readChunk [])
+    (λ c. ownedWhere (v .allocator .chunkSize) (v .bytes) (v .nodes) c (foundNode (c .node) (v .nodes))) (λ c. says-where (v .allocator .chunkSize) pos (v .bytes) c (v .nodes) a) (v .chunks)
+
+-- ---- what the tests of the pointers give the code
+
+pub rows-inside : (s next area : ℕ) → 0 < s → next % s ≡ 0 → next ≤ area → (cs : List ChunkRow) → rowsLined s next cs ≡ true → (i : ℕ) → i < length cs → chunkAt cs i .pointer + s ≤ area
+unfolding rowsLined
+rows-inside s next area pos al fits cs e i h =
+    let row = says-true (says-upto (λ j. (chunkAt cs j .pointer % s ≡ 0) × (chunkAt cs j .pointer < next)) (λ j. lined s next (chunkAt cs j .pointer)) (length cs) (λ j b. says-lined s next (chunkAt cs j .pointer))) e i h in
+    omega (arith, gap s (chunkAt cs i .pointer) next pos (row .0) al (row .1))
