@@ -1,13 +1,13 @@
 -- What the whole check means: it accepts exactly what is sound.
 -- Assumes nothing.
-use mathlib.Core.Path.{_≡_, ap, _∙_}
-use mathlib.Core.Bool.{Bool, true}
+use mathlib.Core.Path.{_≡_, refl, ap, _∙_}
+use mathlib.Core.Bool.{Bool, true, false}
 use mathlib.Core.List.{List, [], _∷_, map}
 use Prim.Native.Nat.{ℕ, _+_, _*_, _%_, _≤_, _<_}
 use native.Mathlib.Omega.{arith}
 use lib.ListN.{length}
 use Rattle.words.specs.Bytes.{word, Bytes}
-use Rattle.words.specs.Rule.{count}
+use Rattle.words.specs.Rule.{both, count}
 use Rattle.words.specs.Table.{Each, Asc}
 use Rattle.words.proofs.Numbers.{num-part}
 use Rattle.words.proofs.Rules.{Says, says-map, says-both, says-and, says-true, true-says}
@@ -27,15 +27,17 @@ use Rattle.volume.specs.Geometry.{layoutOf}
 use Rattle.volume.specs.Framed.{Framed, NodeFits, Fits}
 use Rattle.volume.specs.Sound.{node, isDirectory, isThere, naming, nodeBefore, entryBefore, chunkBefore, Owned, NodeGood, Good, Sound}
 use Rattle.volume.proofs.Laid.{framed-formed}
-use Rattle.tables.specs.Tables.{Ready}
+use Rattle.tables.specs.Tables.{Ready, chunkAt}
 use Rattle.soundness.specs.Frame.{framed}
+use Rattle.soundness.specs.Pointers.{nextFits, pointersGood}
+use Rattle.soundness.specs.Owners.{chunksOwned}
 use Rattle.soundness.specs.Check.{ordered, numbered, related, stored, good, sound}
 use Rattle.soundness.proofs.Frames.{says-framed}
 use Rattle.soundness.proofs.Orders.{says-node-order, says-entry-order, says-chunk-order, says-indexed, says-below, says-names, says-unnamed, says-root}
 use Rattle.soundness.proofs.Related.{says-parents, says-targets, says-once}
 use Rattle.soundness.proofs.Counts.{says-nodes}
 use Rattle.soundness.proofs.Accounted.{says-next, says-pointers}
-use Rattle.soundness.proofs.Owned.{says-owned}
+use Rattle.soundness.proofs.Owned.{says-owned, rows-inside}
 
 module _ (v : Volume) where
   -- ---- the rules, group by group
@@ -163,3 +165,29 @@ sizes-of es (r ∷ rs) f g = (omega (arith, limit-most (r .limit) (f .0 .limit),
 
 pub sizes-most : (v : Volume) → Fits v → related v ≡ true → Asc nodeBefore (v .nodes) → Asc entryBefore (v .entries) → Each (λ r. r .size ≤ mostSize) (v .nodes)
 sizes-most v f e a b = sizes-of (v .entries) (v .nodes) (f .nodeRows) (says-true (says-related v a b) e .1 .1 .1)
+
+-- ---- for the code: the numbers that it read
+
+module _ (v : Volume) {s n : ℕ} (es : s ≡ v .allocator .chunkSize) (en : n ≡ v .allocator .nextPtr) where
+  pub next-as : {a c : ℕ} {r : Bool} → a ≡ length (v .bytes) → c ≡ v .chunkRoom → r ≡ nextFits s n a c → r ≡ nextFits (v .allocator .chunkSize) (v .allocator .nextPtr) (length (v .bytes)) (v .chunkRoom)
+  next-as ea ec e = e ∙ rw (es, en, ea, ec)
+
+  pub pointers-as : {r : Bool} → r ≡ pointersGood s n (v .chunks) (free (v .allocator)) → r ≡ pointersGood (v .allocator .chunkSize) (v .allocator .nextPtr) (v .chunks) (free (v .allocator))
+  pointers-as e = e ∙ rw (es, en)
+
+pub owned-as : (v : Volume) {s : ℕ} {r : Bool} → s ≡ v .allocator .chunkSize → r ≡ chunksOwned s (v .bytes) (v .nodes) (v .chunks) → r ≡ chunksOwned (v .allocator .chunkSize) (v .bytes) (v .nodes) (v .chunks)
+owned-as v es e = e ∙ rw es
+
+first-true : (a b : Bool) → both a b ≡ true → a ≡ true
+unfolding both
+first-true true b e = refl
+first-true false b e = e
+
+-- every chunk of a row lies in the area
+pub inside-as : (v : Volume) {s : ℕ} → s ≡ v .allocator .chunkSize → 0 < s → nextFits (v .allocator .chunkSize) (v .allocator .nextPtr) (length (v .bytes)) (v .chunkRoom) ≡ true
+    → pointersGood (v .allocator .chunkSize) (v .allocator .nextPtr) (v .chunks) (free (v .allocator)) ≡ true
+    → (i : ℕ) → i < length (v .chunks) → chunkAt (v .chunks) i .pointer + s ≤ length (v .bytes)
+unfolding pointersGood
+inside-as v es pos f p i h =
+    let k = says-true (says-next (v .allocator .chunkSize) (v .allocator .nextPtr) (length (v .bytes)) (v .chunkRoom)) f in
+    rw es (rows-inside (v .allocator .chunkSize) (v .allocator .nextPtr) (length (v .bytes)) (omega arith) (k .0) (k .1 .0) (v .chunks) (first-true _ _ p) i h)

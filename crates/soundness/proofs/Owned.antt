@@ -13,7 +13,7 @@ use Rattle.words.specs.Bytes.{part}
 use Rattle.words.specs.Rule.{either, allZero}
 use Rattle.words.specs.Table.{Each, Asc, find}
 use Rattle.words.proofs.Rules.{Says, holds, fails, says-map, says-both, says-and, says-not, says-ltb, says-upto, says-true}
-use Rattle.words.proofs.Blocks.{says-zero-part}
+use Rattle.words.proofs.Blocks.{says-zero-part, zero-part}
 use Rattle.words.proofs.Multiples.{parts, step-apart, gap}
 use Rattle.types.specs.declared.NodeRecord.{NodeRecord}
 use Rattle.allocator.specs.Opening.{lined}
@@ -30,7 +30,6 @@ use Rattle.tables.proofs.Rooms.{rooms, count-bytes}
 use Rattle.tables.proofs.Finds.{node-found, node-absent}
 use Rattle.soundness.specs.Pointers.{rowsLined}
 use Rattle.soundness.specs.Owners.{tailZero, ownedBy, ownedWhere, chunksOwned}
-use Rattle.soundness.proofs.Frames.{zero-part}
 use Rattle.soundness.proofs.Accounted.{says-lined}
 use Rattle.soundness.proofs.Orders.{says-directory}
 use Rattle.soundness.proofs.Places.{each-places}
