@@ -89,6 +89,31 @@ text v =
     ∷ rowLines (length (v .nodes)) (length (v .entries)) (length (v .chunks))
     ∷ nextLines (v .allocator .freeCount) (v .allocator .nextPtr) (v .nextNode) ∷ [])
 
+-- ---- the text of a new volume
+
+-- format=1
+-- chunk_size=16384
+-- chunk_shift=14
+-- nodes=1
+-- entries=0
+-- chunks=0
+-- free=0
+-- next_ptr=0
+-- next_node=1
+unfoldable pub newText : List ℕ
+newText =
+    102 ∷ 111 ∷ 114 ∷ 109 ∷ 97 ∷ 116 ∷ 61 ∷ 49 ∷ 10
+    ∷ 99 ∷ 104 ∷ 117 ∷ 110 ∷ 107 ∷ 95 ∷ 115 ∷ 105 ∷ 122 ∷ 101 ∷ 61 ∷ 49 ∷ 54 ∷ 51 ∷ 56 ∷ 52 ∷ 10
+    ∷ 99 ∷ 104 ∷ 117 ∷ 110 ∷ 107 ∷ 95 ∷ 115 ∷ 104 ∷ 105 ∷ 102 ∷ 116 ∷ 61 ∷ 49 ∷ 52 ∷ 10
+    ∷ 110 ∷ 111 ∷ 100 ∷ 101 ∷ 115 ∷ 61 ∷ 49 ∷ 10
+    ∷ 101 ∷ 110 ∷ 116 ∷ 114 ∷ 105 ∷ 101 ∷ 115 ∷ 61 ∷ 48 ∷ 10
+    ∷ 99 ∷ 104 ∷ 117 ∷ 110 ∷ 107 ∷ 115 ∷ 61 ∷ 48 ∷ 10
+    ∷ 102 ∷ 114 ∷ 101 ∷ 101 ∷ 61 ∷ 48 ∷ 10
+    ∷ 110 ∷ 101 ∷ 120 ∷ 116 ∷ 95 ∷ 112 ∷ 116 ∷ 114 ∷ 61 ∷ 48 ∷ 10
+    ∷ 110 ∷ 101 ∷ 120 ∷ 116 ∷ 95 ∷ 110 ∷ 111 ∷ 100 ∷ 101 ∷ 61 ∷ 49 ∷ 10 ∷ []
+
+-- ---- the call
+
 abbrev pub leastOutput : ℕ
 leastOutput = 512
 
