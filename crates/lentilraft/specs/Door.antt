@@ -5,16 +5,13 @@ use Prim.Native.Nat.{ℕ}
 use mathlib.Core.List.{List}
 use Rattle.words.specs.Rule.{pick}
 use Rattle.types.specs.declared.Answer.{Answer}
-use Rattle.types.specs.declared.Answer.the-variants.{Done}
+use Rattle.types.specs.declared.Answer.the-variants.{Done, Refused}
 use Rattle.types.specs.declared.Error.the-variants.{UnsoundMemory}
-use Rattle.types.specs.Outcomes.{Outcome, outcome, refused, done}
+use Rattle.types.specs.Outcomes.{Outcome, outcome, refused}
 use Rattle.allocator.specs.Allocator as Allocator
 use Rattle.volume.specs.Volume.{Volume, shown, laid, withAllocator}
+use Rattle.volume.specs.Steps.{Step}
 use Rattle.soundness.specs.Check.{sound}
-
-pub record Step : Type 0 where
-  pub answer : Answer
-  pub after : Volume
 
 unfoldable pub door : List ℕ → (Volume → Step) → Outcome
 door l call = pick (sound l) (outcome (call (shown l) .answer) (laid (call (shown l) .after))) (refused UnsoundMemory l)
@@ -23,7 +20,7 @@ door l call = pick (sound l) (outcome (call (shown l) .answer) (laid (call (show
 
 -- 1, or nothing to tell
 unfoldable pub check : List ℕ → Answer
-check l = door l (λ v. record { answer = Done 0; after = v }) .answer
+check l = pick (sound l) (Done 0) (Refused UnsoundMemory)
 
 unfoldable pub chunkSizeSet : ℕ → Volume → Step
 chunkSizeSet s v = record { answer = Allocator.setChunkSize s (v .allocator) .answer; after = withAllocator (Allocator.setChunkSize s (v .allocator) .after) v }

@@ -1,2 +1,46 @@
-// The public calls.
-mod report;
+// The public calls on a volume. Each asks first whether the memory is sound, and refuses it with 1 if it is not; no call asks anything
+// of its caller.
+mod text;
+
+use types::Answer;
+use types::Error;
+ghost use mathlib.Core.Path.{_≡_};
+ghost use Rattle.types.specs.Outcomes.{outcome};
+ghost use Rattle.lentilraft.specs.Door.{check, setChunkSize};
+ghost use Rattle.lentilraft.specs.Report.{report};
+
+// The least room for a report.
+const LEAST_OUTPUT: usize = 512;
+
+pub fn check(volume: &[u8]) -> Answer
+    ensures { λ r. ⌜ r ≡ check (now (volume .entry)) ⌝ }
+{
+    if !soundness::sound(volume) {
+        return Answer::Refused(Error::UnsoundMemory);
+    }
+    Answer::Done(0)
+}
+
+pub fn set_chunk_size(volume: &mut [u8], size: u64) -> Answer
+    ensures { λ r. ⌜ outcome r (now (volume .exit)) ≡ setChunkSize size (now (volume .entry)) ⌝ }
+{
+    if !soundness::sound(volume) {
+        return Answer::Refused(Error::UnsoundMemory);
+    }
+    let layout = volume::read_layout(volume);
+    tables::set_chunk_size(volume, layout, size)
+}
+
+pub fn report(volume: &[u8], out: &mut [u8]) -> Answer
+    ensures { λ r. ⌜ outcome r (now (out .exit)) ≡ report (now (volume .entry)) (now (out .entry)) ⌝ }
+{
+    if !soundness::sound(volume) {
+        return Answer::Refused(Error::UnsoundMemory);
+    }
+    if out.len() < LEAST_OUTPUT {
+        return Answer::Refused(Error::OutputTooShort);
+    }
+    let layout = volume::read_layout(volume);
+    let count = text::put_text(volume, layout, out);
+    Answer::Done(count as u64)
+}

@@ -29,6 +29,7 @@ use Rattle.tables.proofs.Rooms.{rooms, count-nodes, count-entries}
 use Rattle.tables.proofs.Finds.{node-found, node-absent}
 use Rattle.soundness.specs.Counted.{nodeGood}
 use Rattle.soundness.specs.Counters.{bumped}
+use Rattle.soundness.proofs.Places.{asc-at}
 
 -- ---- the row that a search finds
 
@@ -52,14 +53,6 @@ module _ {R : Type 0} (hit : R → Bool) where
       go true q z k = let x : _≡_ {A = ℕ} 0 1 = cc in absurd (omega arith)
       go false q z k = (q, k z)
 
--- of two places in ascending rows the first has the lesser row
-asc-at : {R : Type 0} (lt : R → R → Type 0) (d : R) (rs : List R) (i k : ℕ) → Asc lt rs → i < k → k < length rs → lt (getD rs i d) (getD rs k d)
-unfolding Asc
-asc-at lt d [] i k a h b = absurd (not-suc-le-zero b)
-asc-at lt d (r ∷ rs) i zero a h b = absurd (not-suc-le-zero h)
-asc-at lt d (r ∷ rs) zero (suc k) a h b = each-at (lt r) rs k d (a .0) (le-of-suc-le-suc b)
-asc-at lt d (r ∷ rs) (suc i) (suc k) a h b = asc-at lt d rs i k (a .1) (le-of-suc-le-suc h) (le-of-suc-le-suc b)
-
 module _ (n : ℕ) (rs : List NodeRecord) where
   -- a row that was found is there, and has the number
   pub row-there : (i : ℕ) → At i ≡ foundNode n rs → (i < length rs) × (nodeAt rs i .node ≡ n)
@@ -73,8 +66,8 @@ module _ (n : ℕ) (rs : List NodeRecord) where
     row-alone i e u q = go (decLt i k)
       where
         go : Dec (i < k) → ⊥
-        go (yes h) = let f = row-there i e in let t = asc-at nodeBefore (readNode []) rs i k a h b in omega arith
-        go (no h) = let f = row-there i e in let t = asc-at nodeBefore (readNode []) rs k i a (omega arith) (f .0) in omega arith
+        go (yes h) = let f = row-there i e in let t = asc-at nodeBefore (readNode []) rs a i k h b in omega arith
+        go (no h) = let f = row-there i e in let t = asc-at nodeBefore (readNode []) rs a k i (omega arith) (f .0) in omega arith
 
     row-missing : Nothing ≡ foundNode n rs → n ≡ nodeAt rs k .node → ⊥
     row-missing e q = eqb-false (nodeAt rs k .node) n (each-at (λ r. eqb (r .node) n ≡ false) rs k (readNode []) (none-hits (λ r. eqb (r .node) n) rs (node-absent n rs a e)) b) (sym q)

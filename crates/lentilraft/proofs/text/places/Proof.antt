@@ -1,5 +1,5 @@
-use Rattle.lentilraft.proofs.report.places.Statement.{statement}
-use Rattle.lentilraft.proofs.report.places.Tie as tie
+use Rattle.lentilraft.proofs.text.places.Statement.{statement}
+use Rattle.lentilraft.proofs.text.places.Tie as tie
 use native.Mathlib.Omega.{arith}
 use borrow.Author.Needs.{needs}
 use Rattle.lentilraft.proofs.Lines.{Seen, seen-first, seen-next, seen-last}

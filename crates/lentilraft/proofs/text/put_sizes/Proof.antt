@@ -1,6 +1,6 @@
 use borrow.Author.Needs.{needs}
-use Rattle.lentilraft.proofs.report.put_sizes.Statement.{statement}
-use Rattle.lentilraft.proofs.report.put_sizes.Tie as tie
+use Rattle.lentilraft.proofs.text.put_sizes.Statement.{statement}
+use Rattle.lentilraft.proofs.text.put_sizes.Tie as tie
 use native.Mathlib.Omega.{arith}
 use denote.Ref.{now}
 use lib.Count.{trailingZeros, trailing-le}

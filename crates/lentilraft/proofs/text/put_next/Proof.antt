@@ -1,6 +1,6 @@
 use borrow.Author.Needs.{needs}
-use Rattle.lentilraft.proofs.report.put_next.Statement.{statement}
-use Rattle.lentilraft.proofs.report.put_next.Tie as tie
+use Rattle.lentilraft.proofs.text.put_next.Statement.{statement}
+use Rattle.lentilraft.proofs.text.put_next.Tie as tie
 use Prim.Native.Nat.{_+_}
 use native.Mathlib.Omega.{arith}
 use denote.Ref.{now}

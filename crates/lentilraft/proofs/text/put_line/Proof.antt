@@ -1,6 +1,6 @@
 use borrow.Author.Needs.{needs}
-use Rattle.lentilraft.proofs.report.put_line.Statement.{statement}
-use Rattle.lentilraft.proofs.report.put_line.Tie as tie
+use Rattle.lentilraft.proofs.text.put_line.Statement.{statement}
+use Rattle.lentilraft.proofs.text.put_line.Tie as tie
 use denote.Ref.{now}
 use Rattle.lentilraft.proofs.Lines.{line-put}
 

@@ -1,6 +1,6 @@
 use borrow.Author.Needs.{needs}
-use Rattle.lentilraft.proofs.report.put_text.Statement.{statement}
-use Rattle.lentilraft.proofs.report.put_text.Tie as tie
+use Rattle.lentilraft.proofs.text.put_text.Statement.{statement}
+use Rattle.lentilraft.proofs.text.put_text.Tie as tie
 use native.Mathlib.Omega.{arith}
 use denote.Ref.{now}
 use Rattle.volume.specs.Volume.{shown}

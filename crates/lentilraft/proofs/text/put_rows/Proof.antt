@@ -1,6 +1,6 @@
 use borrow.Author.Needs.{needs}
-use Rattle.lentilraft.proofs.report.put_rows.Statement.{statement}
-use Rattle.lentilraft.proofs.report.put_rows.Tie as tie
+use Rattle.lentilraft.proofs.text.put_rows.Statement.{statement}
+use Rattle.lentilraft.proofs.text.put_rows.Tie as tie
 use Prim.Native.Nat.{_+_}
 use native.Mathlib.Omega.{arith}
 use denote.Ref.{now}

@@ -1,5 +1,5 @@
-use Rattle.lentilraft.proofs.report.put_digits.Statement.{statement}
-use Rattle.lentilraft.proofs.report.put_digits.Tie as tie
+use Rattle.lentilraft.proofs.text.put_digits.Statement.{statement}
+use Rattle.lentilraft.proofs.text.put_digits.Tie as tie
 use mathlib.Core.Path.{_≡_, refl, sym, _∙_}
 use Prim.Native.Nat.{_-_, _≤_}
 use native.Mathlib.Omega.{arith}

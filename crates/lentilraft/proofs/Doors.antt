@@ -1,0 +1,87 @@
+-- What stands behind the door: a sound memory is a volume laid out, and a refusal leaves it as it was. One possible outcome of each call.
+-- Assumes nothing.
+use mathlib.Core.Path.{_≡_, refl, sym, ap, _∙_}
+use mathlib.Core.Bool.{Bool, true, false}
+use mathlib.Core.List.{List}
+use Prim.Native.Nat.{ℕ, _≤_, _<_}
+use lib.Dec.{ltb}
+use lib.ListN.{length}
+use borrow.Author.Tests.{lt-ltb, le-ltb}
+use Rattle.words.specs.Bytes.{Bytes, word, over}
+use Rattle.words.proofs.Rules.{pick-true, pick-false}
+use Rattle.types.specs.declared.Answer.{Answer}
+use Rattle.types.specs.declared.Answer.the-variants.{Done, Refused}
+use Rattle.types.specs.declared.Error.the-variants.{UnsoundMemory, OutputTooShort}
+use Rattle.types.specs.Outcomes.{Outcome, outcome}
+use Rattle.volume.specs.declared.Layout.{Layout}
+use Rattle.volume.specs.Volume.{Volume, shown, laid}
+use Rattle.volume.specs.Steps.{Step}
+use Rattle.volume.specs.Geometry.{layoutOf}
+use Rattle.volume.specs.Framed.{Headed}
+use Rattle.volume.specs.Sound.{Good}
+use Rattle.tables.specs.Tables.{Ready}
+use Rattle.soundness.specs.Check.{sound}
+use Rattle.soundness.proofs.Checked.{sound-true, framed-ready}
+use Rattle.lentilraft.specs.Door.{door, check, setChunkSize}
+use Rattle.lentilraft.specs.Report.{text, leastOutput, report}
+
+-- ---- of a memory that passed the check
+
+module _ (l : List ℕ) (e : sound l ≡ true) where
+  pub door-headed : Headed l
+  door-headed = sound-true l e .framed .headed
+
+  pub door-good : Good (shown l)
+  door-good = sound-true l e .good
+
+  pub door-ready : Bytes l → {y : Layout} → y ≡ layoutOf (word l 8) (word l 16) (word l 24) → Ready l y
+  door-ready b h = framed-ready l b (sound-true l e .framed) h
+
+-- ---- the outcome of a call
+
+told : {a b : Answer} {x y : List ℕ} → a ≡ b → x ≡ y → outcome a x ≡ outcome b y
+told p q = rw (p, q)
+
+pub door-shut : (l : List ℕ) (call : Volume → Step) → sound l ≡ false → outcome (Refused UnsoundMemory) l ≡ door l call
+unfolding door
+door-shut l call e = pick-false _ _ _ _ e refl
+
+pub door-open : (l : List ℕ) (call : Volume → Step) {r : Answer} {m : List ℕ} → sound l ≡ true → (r ≡ call (shown l) .answer) × (m ≡ laid (call (shown l) .after)) → outcome r m ≡ door l call
+unfolding door
+door-open l call e h = pick-true _ _ _ _ e (told (h .0) (h .1))
+
+pub check-shut : (l : List ℕ) → sound l ≡ false → Refused UnsoundMemory ≡ check l
+unfolding check
+check-shut l e = pick-false _ _ _ _ e refl
+
+pub check-open : (l : List ℕ) → sound l ≡ true → Done 0 ≡ check l
+unfolding check
+check-open l e = pick-true _ _ _ _ e refl
+
+module _ (l out : List ℕ) where
+  pub report-shut : sound l ≡ false → outcome (Refused UnsoundMemory) out ≡ report l out
+  unfolding report
+  report-shut e = pick-false _ _ _ _ e refl
+
+  pub report-short : sound l ≡ true → length out < leastOutput → outcome (Refused OutputTooShort) out ≡ report l out
+  unfolding report
+  report-short e h = pick-true _ _ _ _ e (pick-true _ _ _ _ (lt-ltb (length out) leastOutput h) refl)
+
+  pub report-full : {n : ℕ} {m : List ℕ} → sound l ≡ true → leastOutput ≤ length out → n ≡ length (text (shown l)) → m ≡ over out 0 (text (shown l)) → outcome (Done n) m ≡ report l out
+  unfolding report
+  report-full e h p q = pick-true _ _ _ _ e (pick-false _ _ _ _ (le-ltb (length out) leastOutput h) (told (ap Done p) q))
+
+-- ---- one possible outcome
+
+-- a promise is one equation: what the call gives back and leaves equals what its definition says. Any two outcomes that it permits are equal.
+pub one-outcome : {A : Type 0} (said : A) (one two : A) → one ≡ said → two ≡ said → one ≡ two
+one-outcome said one two p q = p ∙ sym q
+
+pub one-check : (l : List ℕ) (a b : Answer) → a ≡ check l → b ≡ check l → a ≡ b
+one-check l a b = one-outcome (check l) a b
+
+pub one-set-chunk-size : (s : ℕ) (l : List ℕ) (a b : Outcome) → a ≡ setChunkSize s l → b ≡ setChunkSize s l → a ≡ b
+one-set-chunk-size s l a b = one-outcome (setChunkSize s l) a b
+
+pub one-report : (l out : List ℕ) (a b : Outcome) → a ≡ report l out → b ≡ report l out → a ≡ b
+one-report l out a b = one-outcome (report l out) a b
