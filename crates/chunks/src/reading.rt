@@ -17,11 +17,11 @@ ghost use Rattle.chunks.specs.Read.{readCount};
 ghost use Rattle.chunks.specs.Read.{read as Read·read};
 
 // What is left of a chunk behind byte at, and no more than is left to do.
-fn piece_size(at: u64, chunk_size: u64, left: usize) -> usize
-    requires { ⌜ 0 < chunk_size ⌝ }
-    ensures { λ r. ⌜ (r ≡ min left (chunk_size - at % chunk_size)) × (r ≤ left) ⌝ }
+fn piece_size(at: u64, size: u64, left: usize) -> usize
+    requires { ⌜ 0 < size ⌝ }
+    ensures { λ r. ⌜ (r ≡ min left (size - at % size)) × (r ≤ left) ⌝ }
 {
-    let rest = (chunk_size - at % chunk_size) as usize;
+    let rest = (size - at % size) as usize;
     if left < rest {
         return left;
     }
