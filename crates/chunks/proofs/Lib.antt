@@ -1,0 +1,4 @@
+pub mod Content
+pub mod Cursor
+pub mod Inside
+pub mod Pieces

@@ -6,12 +6,14 @@ use volume::Layout;
 ghost use mathlib.Core.Path.{_≡_};
 ghost use Prim.Native.Nat.{ℕ, _+_, _-_, _/_, _%_, min, _≤_, _<_};
 ghost use lib.ListN.{length};
+ghost use lib.Dec.{ltb};
+ghost use Rattle.words.specs.Rule.{both};
 ghost use Rattle.words.specs.Table.{lead, Asc};
 ghost use Rattle.types.specs.Outcomes.{outcome};
 ghost use Rattle.volume.specs.Volume.{shown};
 ghost use Rattle.volume.specs.Search.{chunkUnder};
 ghost use Rattle.volume.specs.Sound.{chunkBefore, Good};
-ghost use Rattle.tables.specs.Tables.{Ready, chunkAt};
+ghost use Rattle.tables.specs.Tables.{Ready, chunkAt, isChunk};
 ghost use Rattle.chunks.specs.Content.{bytesFrom};
 ghost use Rattle.chunks.specs.Read.{readCount};
 ghost use Rattle.chunks.specs.Read.{read as Read·read};
@@ -26,6 +28,21 @@ fn piece_size(at: u64, size: u64, left: usize) -> usize
         return left;
     }
     rest
+}
+
+// Whether a row of the chunk table is there and is the row of a node's chunk.
+fn is_row(volume: &[u8], layout: Layout, row: usize, node: u64, index: u64) -> bool
+    requires { ⌜ Ready (now volume) layout ⌝ }
+    ensures { λ r. ⌜ r ≡ both (ltb row (length (shown (now (volume .entry)) .chunks))) (isChunk node index (chunkAt (shown (now (volume .entry)) .chunks) row)) ⌝ }
+{
+    if tables::chunks_used(volume, layout) <= row {
+        return false;
+    }
+    let chunk = tables::chunk_row(volume, layout, row);
+    if chunk.node != node {
+        return false;
+    }
+    chunk.index == index
 }
 
 // Reads bytes of one chunk, from byte at of the file on. Its row, if it has one, is the row given. Answers where the next chunk's row is.
@@ -43,19 +60,11 @@ fn read_chunk(
 {
     let size = tables::chunk_size(volume, layout);
     let whole = out.len();
-    if tables::chunks_used(volume, layout) <= row {
+    if !is_row(volume, layout, row, node, at / size) {
         words::clear(out, 0, whole);
         return row;
     }
     let chunk = tables::chunk_row(volume, layout, row);
-    if chunk.node != node {
-        words::clear(out, 0, whole);
-        return row;
-    }
-    if chunk.index != at / size {
-        words::clear(out, 0, whole);
-        return row;
-    }
     let from = layout.bytes + (chunk.pointer + at % size) as usize;
     words::copy(out, 0, &volume[from..from + whole]);
     row + 1
