@@ -3,16 +3,16 @@
 -- Assumes nothing.
 use mathlib.Core.Path.{_≡_, refl, sym, ap, _∙_}
 use mathlib.Core.Bool.{Bool, true, false, true≢false}
-use mathlib.Core.Logic.{_⊎_, inl, inr}
+use mathlib.Core.Logic.{inl, inr}
 use mathlib.Core.List.{List, [], _∷_}
 use mathlib.Core.Option.{none, some}
-use Prim.Native.Nat.{ℕ, zero, suc, _+_, _≤_, _<_}
-use native.Mathlib.Nat.{not-suc-le-zero, le-of-suc-le-suc, suc-add}
+use Prim.Native.Nat.{ℕ, suc, _+_, _≤_, _<_}
+use native.Mathlib.Nat.{not-suc-le-zero, le-of-suc-le-suc}
 use native.Mathlib.Omega.{arith}
 use native.Mathlib.Decide.{decLt}
 use lib.Dec.{eqb, ltb}
 use lib.ListN.{length, getD}
-use borrow.Author.Tests.{eq-eqb, ne-eqb, lt-ltb, le-ltb, ltb-true, ltb-false}
+use borrow.Author.Tests.{eq-eqb, ne-eqb, lt-ltb, le-ltb}
 use Rattle.words.specs.Rule.{both}
 use Rattle.words.specs.Table.{Asc, Each, lead, leadOf}
 use Rattle.words.proofs.Rules.{Says, holds, fails, says-true, true-says, says-eqb, says-ltb, says-both, stop, go-on}
@@ -20,10 +20,10 @@ use Rattle.words.proofs.Order.{asc-map}
 use Rattle.words.proofs.Search.{lead-above, asc-falls, find-found, find-missing}
 use Rattle.volume.specs.declared.ChunkRow.{ChunkRow}
 use Rattle.volume.specs.Rows.{readChunk}
-use Rattle.volume.specs.Search.{pairBefore, chunkUnder}
+use Rattle.volume.specs.Search.{chunkUnder}
 use Rattle.volume.specs.Sound.{chunkBefore}
 use Rattle.tables.specs.Tables.{chunkAt, isChunk}
-use Rattle.tables.proofs.Finds.{PairBefore, says-pair, pair-falls, pair-trans}
+use Rattle.tables.proofs.Finds.{PairBefore, says-pair, pair-falls}
 use Rattle.chunks.specs.Content.{chunk}
 
 -- ---- two tests, of which the second lets at most one row more pass
@@ -57,13 +57,13 @@ module _ {R : Type 0} (f g : R → Bool) (d : R) (wider : (r : R) → f r ≡ tr
 
 -- ---- a test that fails
 
-says-not : {P : Type 0} {t : Bool} → Says P t → (P → ⊥) → t ≡ false
-says-not (holds p) h = absurd (h p)
-says-not (fails p) h = refl
+false-says : {P : Type 0} {t : Bool} → Says P t → (P → ⊥) → t ≡ false
+false-says (holds p) h = absurd (h p)
+false-says (fails p) h = refl
 
-not-says : {P : Type 0} {t : Bool} → Says P t → t ≡ false → P → ⊥
-not-says (holds p) e q = true≢false e
-not-says (fails p) e q = p q
+says-false : {P : Type 0} {t : Bool} → Says P t → t ≡ false → P → ⊥
+says-false (holds p) e q = true≢false e
+says-false (fails p) e q = p q
 
 says-itself : (b : Bool) → Says (b ≡ true) b
 says-itself true = holds refl
@@ -93,7 +93,7 @@ module _ (n k : ℕ) where
   between a b c d (inr h) (inr i) = inr (h .0 ∙ i .0, omega (arith, h .1, i .1))
 
   after : (a b : ChunkRow) → chunkBefore a b → chunkUnder n k a ≡ false → chunkUnder n (k + 1) b ≡ false
-  after a b h e = says-not (says-under b (k + 1)) (λ z. not-says (says-under a k) e (between (a .node) (a .index) (b .node) (b .index) h z))
+  after a b h e = false-says (says-under b (k + 1)) (λ z. says-false (says-under a k) e (between (a .node) (a .index) (b .node) (b .index) h z))
 
   -- the row of chunk k is not under (n, k) but is under (n, k + 1)
   apart : (a b : ℕ) → a ≡ n → b ≡ k → PairBefore a b n k → ⊥
@@ -101,7 +101,7 @@ module _ (n k : ℕ) where
   apart a b p q (inr h) = omega (arith, h .1)
 
   not-under : (c : ChunkRow) → chunkUnder n k c ≡ true → isChunk n k c ≡ false
-  not-under c e = says-not (says-chunk c) (λ z. apart (c .node) (c .index) (z .0) (z .1) (says-true (says-under c k) e))
+  not-under c e = false-says (says-chunk c) (λ z. apart (c .node) (c .index) (z .0) (z .1) (says-true (says-under c k) e))
 
   here-under : (c : ChunkRow) → isChunk n k c ≡ true → chunkUnder n (k + 1) c ≡ true
   here-under c e = let h = says-true (says-chunk c) e in true-says (says-under c (k + 1)) (inr (h .0, omega (arith, h .1)))
@@ -116,13 +116,13 @@ module _ (n k : ℕ) where
       last (no i) = omega (arith, h .1)
 
   other-not-under : (c : ChunkRow) → chunkUnder n k c ≡ false → isChunk n k c ≡ false → chunkUnder n (k + 1) c ≡ false
-  other-not-under c e h = says-not (says-under c (k + 1)) (λ z. not-says (says-chunk c) h (only (c .node) (c .index) z (not-says (says-under c k) e)))
+  other-not-under c e h = false-says (says-under c (k + 1)) (λ z. says-false (says-chunk c) h (only (c .node) (c .index) z (says-false (says-under c k) e)))
 
   falls : (a b : ChunkRow) → chunkBefore a b → chunkUnder n k a ≡ false → chunkUnder n k b ≡ false
   falls a b h e = pair-falls (a .node) (a .index) (b .node) (b .index) n k h e
 
   passes : (a b : ChunkRow) → chunkBefore a b → chunkUnder n k a ≡ false → isChunk n k a ≡ false → isChunk n k b ≡ false
-  passes a b h e q = says-not (says-chunk b) (λ z. not-says (says-under a k) e (first (a .node) (a .index) (b .node) (b .index) (z .0) (z .1) h))
+  passes a b h e q = false-says (says-chunk b) (λ z. says-false (says-under a k) e (first (a .node) (a .index) (b .node) (b .index) (z .0) (z .1) h))
     where
       first : (a b c d : ℕ) → c ≡ n → d ≡ k → PairBefore a b c d → PairBefore a b n k
       first a b c d p q h = rw (← p, ← q) h
@@ -158,7 +158,7 @@ module _ (n k : ℕ) where
     row-yes q = let h = says-true (says-both (says-ltb p (length cs)) (says-itself (isChunk n k (chunkAt cs p)))) q in (h .0, row-here (h .0) (h .1))
 
     pub row-no : both (ltb p (length cs)) (isChunk n k (chunkAt cs p)) ≡ false → (chunk n k cs ≡ none) × (p ≡ lead (chunkUnder n (k + 1)) cs)
-    row-no q = row-none (λ h. says-not (says-itself (isChunk n k (chunkAt cs p))) (λ z. not-says (says-both (says-ltb p (length cs)) (says-itself (isChunk n k (chunkAt cs p)))) q (h, z)))
+    row-no q = row-none (λ h. false-says (says-itself (isChunk n k (chunkAt cs p))) (λ z. says-false (says-both (says-ltb p (length cs)) (says-itself (isChunk n k (chunkAt cs p)))) q (h, z)))
 
 -- ---- the test, as code makes it: past the rows, another node's row, and the row's index
 

@@ -1,6 +1,5 @@
 -- What the account of the pointers says of a chunk's row: its chunk lies in the chunk area.
 -- Assumes nothing.
-use mathlib.Core.Path.{_≡_, refl}
 use mathlib.Core.List.{List, [], _∷_, map}
 use Prim.Native.Nat.{ℕ, zero, suc, _+_, _≤_, _<_}
 use native.Mathlib.Nat.{not-suc-le-zero, le-of-suc-le-suc}
@@ -11,7 +10,6 @@ use Rattle.words.proofs.Counting.{count-cons, bit-same}
 use Rattle.words.proofs.Multiples.{gap}
 use Rattle.allocator.specs.Pointers.{Accounted}
 use Rattle.allocator.proofs.Accounts.{Due, live-once}
-use Rattle.volume.specs.declared.ChunkRow.{ChunkRow}
 use Rattle.volume.specs.Volume.{Volume}
 use Rattle.volume.specs.Sound.{Good}
 use Rattle.tables.specs.Tables.{chunkAt}

@@ -2,3 +2,4 @@ pub mod Content
 pub mod Cursor
 pub mod Inside
 pub mod Pieces
+pub mod Given

@@ -1,11 +1,5 @@
 use Rattle.chunks.proofs.reading.read_chunks_v2.Statement.{statement}
 use Rattle.chunks.proofs.reading.read_chunks_v2.Tie as tie
-use Rattle.chunks.proofs.reading.read_chunks_v2.Reads as reads
-use Rattle.chunks.proofs.reading.read_chunks_v2.Lts as lts
-use Rattle.chunks.proofs.reading.piece_size.Reads as piece-size-reads
-use Rattle.chunks.proofs.reading.read_chunk.Reads as read-chunk-reads
-use Rattle.tables.proofs.first_chunk.Reads as first-chunk-reads
-use Rattle.tables.proofs.chunk_size.Reads as chunk-size-reads
 use denote.Ref.{now}
 use borrow.Author.Needs.{needs}
 use native.Mathlib.Omega.{arith}
@@ -21,75 +15,58 @@ Inv-loop volume layout node offset buffer₀ size row₀ done₀ buffer row done
 abbrev μ-loop : tie.MeasureT-loop
 μ-loop volume layout node offset buffer₀ size row₀ done₀ buffer row done = length buffer₀ - done
 
--- src/reading.rt:78:9
 chunk-size-requires : tie.Need-chunk-size-requires Inv-loop μ-loop
 chunk-size-requires c κs = c .before .before .pre .0
 
--- src/reading.rt:79:61
 div-first-chunk : tie.Need-div-first-chunk Inv-loop μ-loop
 div-first-chunk c = search needs
 
--- src/reading.rt:79:9
 first-chunk-requires : tie.Need-first-chunk-requires Inv-loop μ-loop
 first-chunk-requires c κs = (c .before .before .before .pre .0, c .before .before .before .pre .1 .chunkOrder)
 
--- src/reading.rt:81:5
 loop-holds : tie.Need-loop-holds Inv-loop μ-loop
 loop-holds c =
     read-start (shown (now (c .before .before .before .before .args .volume))) (c .before .before .before .before .args .node) (c .before .before .before .before .args .offset) (now (c .before .before .before .before .args .buffer)) (c .before .chunk-size .ensures .0) (c .first-chunk .ensures .0)
 
--- src/reading.rt:82:18
 add-at : tie.Need-add-at Inv-loop μ-loop
 add-at c = search needs
 
--- src/reading.rt:83:38
 sub-piece-size : tie.Need-sub-piece-size Inv-loop μ-loop
 sub-piece-size c = search needs
 
--- src/reading.rt:83:13
 piece-size-requires : tie.Need-piece-size-requires Inv-loop μ-loop
 piece-size-requires c κs = c .before .before .before .chunk-size .ensures .1
 
--- src/reading.rt:84:75
 add-read-chunk : tie.Need-add-read-chunk Inv-loop μ-loop
 add-read-chunk c = search needs
 
--- src/reading.rt:84:57
 sub-read-chunk : tie.Need-sub-read-chunk Inv-loop μ-loop
 sub-read-chunk c = search needs
 
--- src/reading.rt:84:57
 part-read-chunk-start : tie.Need-part-read-chunk-start Inv-loop μ-loop
 part-read-chunk-start c = search needs
 
--- src/reading.rt:84:57
 part-read-chunk-end : tie.Need-part-read-chunk-end Inv-loop μ-loop
 part-read-chunk-end c = search needs
 
--- src/reading.rt:84:9
 read-chunk-requires : tie.Need-read-chunk-requires Inv-loop μ-loop
 read-chunk-requires c κs =
     ((c .before .before .before .before .before .before .before .before .pre .0, c .before .before .before .before .before .before .before .before .pre .1 .chunkOrder, row-inside (shown (now (c .before .before .before .before .before .before .before .before .args .volume))) (c .before .before .before .before .before .before .before .before .pre .1) (omega (arith, c .before .before .before .before .before .chunk-size .ensures))), piece-asked (shown (now (c .before .before .before .before .before .before .before .before .args .volume))) (c .before .before .before .before .before .before .before .before .args .node) (c .before .before .before .before .before .before .before .before .args .offset) (now (c .before .before .before .before .before .before .before .before .args .buffer)) (c .before .before .before .loop .inv) (c .before .before .loop-test .taken) (c .before .before .before .before .before .chunk-size .ensures) (c .before .piece-size .ensures))
 
--- src/reading.rt:85:9
 add-done : tie.Need-add-done Inv-loop μ-loop
 add-done c = search needs
 
--- src/reading.rt:81:5
 loop-less : tie.Need-loop-less Inv-loop μ-loop
 loop-less c =
     omega (arith, piece-some (shown (now (c .before .before .before .before .before .before .before .before .before .before .before .args .volume))) (c .before .before .before .before .before .before .before .before .before .before .before .args .node) (c .before .before .before .before .before .before .before .before .before .before .before .args .offset) (now (c .before .before .before .before .before .before .before .before .before .before .before .args .buffer)) (c .before .before .before .before .before .before .loop .inv) (c .before .before .before .before .before .loop-test .taken) (c .before .before .before .before .before .before .before .before .chunk-size .ensures) (c .before .before .before .before .piece-size .ensures), c .before .before .before .before .piece-size .ensures, c .before .before .before .before .before .before .loop .inv)
 
--- src/reading.rt:81:5
 loop-again : tie.Need-loop-again Inv-loop μ-loop
 loop-again c =
     read-turn (shown (now (c .before .before .before .before .before .before .before .before .before .before .before .args .volume))) (c .before .before .before .before .before .before .before .before .before .before .before .args .node) (c .before .before .before .before .before .before .before .before .before .before .before .args .offset) (now (c .before .before .before .before .before .before .before .before .before .before .before .args .buffer)) (c .before .before .before .before .before .before .loop .inv) (c .before .before .before .before .before .loop-test .taken) (c .before .before .before .before .before .before .before .before .chunk-size .ensures) (c .before .before .before .before .piece-size .ensures) (c .before .before .read-chunk .ensures)
 
--- src/reading.rt:74:1
 same-length : tie.Need-same-length Inv-loop μ-loop
 same-length c = search needs
 
--- src/reading.rt:74:1
 returns : tie.Need-returns Inv-loop μ-loop
 returns c =
     read-end (shown (now (c .before .before .before .before .before .before .args .volume))) (c .before .before .before .before .before .before .args .node) (c .before .before .before .before .before .before .args .offset) (now (c .before .before .before .before .before .before .args .buffer)) (c .before .loop .inv) (c .loop-test .left)
