@@ -29,10 +29,10 @@ use Rattle.chunks.specs.Content.{chunk}
 -- ---- two tests, of which the second lets at most one row more pass
 
 module _ {R : Type 0} (f g : R → Bool) (d : R) (wider : (r : R) → f r ≡ true → g r ≡ true) where
-  pub lead-same : (rs : List R) → (lead f rs < length rs → g (getD rs (lead f rs) d) ≡ false) → lead g rs ≡ lead f rs
+  pub lead-stays : (rs : List R) → (lead f rs < length rs → g (getD rs (lead f rs) d) ≡ false) → lead g rs ≡ lead f rs
   unfolding lead leadOf
-  lead-same [] h = refl
-  lead-same (r ∷ rs) h = go (f r) refl h (lead-same rs)
+  lead-stays [] h = refl
+  lead-stays (r ∷ rs) h = go (f r) refl h (lead-stays rs)
     where
       go : (t : Bool) → f r ≡ t → (leadOf t (lead f rs) < suc (length rs) → g (getD (r ∷ rs) (leadOf t (lead f rs)) d) ≡ false)
           → ((lead f rs < length rs → g (getD rs (lead f rs) d) ≡ false) → lead g rs ≡ lead f rs) → leadOf (g r) (lead g rs) ≡ leadOf t (lead f rs)
@@ -45,10 +45,10 @@ module _ {R : Type 0} (f g : R → Bool) (d : R) (wider : (r : R) → f r ≡ tr
     stops r [] q h = refl
     stops r (s ∷ rs) q h = rw (after r s (h .0) q)
 
-    pub lead-more : (rs : List R) → Asc lt rs → lead f rs < length rs → g (getD rs (lead f rs) d) ≡ true → lead g rs ≡ lead f rs + 1
+    pub lead-next : (rs : List R) → Asc lt rs → lead f rs < length rs → g (getD rs (lead f rs) d) ≡ true → lead g rs ≡ lead f rs + 1
     unfolding lead leadOf Asc
-    lead-more [] a b h = absurd (not-suc-le-zero b)
-    lead-more (r ∷ rs) a b h = go (f r) refl b h (lead-more rs (a .1))
+    lead-next [] a b h = absurd (not-suc-le-zero b)
+    lead-next (r ∷ rs) a b h = go (f r) refl b h (lead-next rs (a .1))
       where
         go : (t : Bool) → f r ≡ t → leadOf t (lead f rs) < suc (length rs) → g (getD (r ∷ rs) (leadOf t (lead f rs)) d) ≡ true
             → (lead f rs < length rs → g (getD rs (lead f rs) d) ≡ true → lead g rs ≡ lead f rs + 1) → leadOf (g r) (lead g rs) ≡ leadOf t (lead f rs) + 1
@@ -136,7 +136,7 @@ module _ (n k : ℕ) where
     row-here h q =
         rw e (
           find-found (chunkUnder n k) (isChunk n k) (readChunk []) not-under cs (rw e at h) (rw e at q),
-          sym (lead-more (chunkUnder n k) (chunkUnder n (k + 1)) (readChunk []) wider chunkBefore after cs asc (rw e at h) (here-under (chunkAt cs (lead (chunkUnder n k) cs)) (rw e at q))),
+          sym (lead-next (chunkUnder n k) (chunkUnder n (k + 1)) (readChunk []) wider chunkBefore after cs asc (rw e at h) (here-under (chunkAt cs (lead (chunkUnder n k) cs)) (rw e at q))),
         )
 
     first-not-under : (b : Bool) → chunkUnder n k (chunkAt cs (lead (chunkUnder n k) cs)) ≡ b → lead (chunkUnder n k) cs < length cs → b ≡ false
@@ -150,7 +150,7 @@ module _ (n k : ℕ) where
         let w : lead (chunkUnder n k) cs < length cs → isChunk n k (chunkAt cs (lead (chunkUnder n k) cs)) ≡ false = rw e at q in (
           find-missing (chunkUnder n k) (isChunk n k) (readChunk []) not-under cs (asc-falls chunkBefore (chunkUnder n k) falls cs asc)
               (asc-map chunkBefore (λ x y. chunkUnder n k x ≡ false → isChunk n k x ≡ false → isChunk n k y ≡ false) passes cs asc) w,
-          e ∙ sym (lead-same (chunkUnder n k) (chunkUnder n (k + 1)) (readChunk []) wider cs (λ h. other-not-under (chunkAt cs (lead (chunkUnder n k) cs)) (first-not-under _ refl h) (w h))),
+          e ∙ sym (lead-stays (chunkUnder n k) (chunkUnder n (k + 1)) (readChunk []) wider cs (λ h. other-not-under (chunkAt cs (lead (chunkUnder n k) cs)) (first-not-under _ refl h) (w h))),
         )
 
     -- the two by one test
