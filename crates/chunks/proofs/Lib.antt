@@ -1,0 +1,5 @@
+pub mod Content
+pub mod Cursor
+pub mod Inside
+pub mod Pieces
+pub mod Given
