@@ -3,3 +3,4 @@ pub mod Cursor
 pub mod Inside
 pub mod Pieces
 pub mod Given
+pub mod Stored

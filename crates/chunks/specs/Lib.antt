@@ -1,3 +1,6 @@
 pub mod Content
 pub mod Read
 pub mod Limits
+pub mod Store
+pub mod Write
+pub mod Resize

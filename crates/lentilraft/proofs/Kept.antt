@@ -14,7 +14,7 @@ use Rattle.words.specs.Rule.{pick, bit, times, count}
 use Rattle.words.specs.Table.{Each}
 use Rattle.words.proofs.Rules.{Says, holds, fails, says-eqb}
 use Rattle.allocator.specs.Sizes.{acceptedSize}
-use Rattle.allocator.specs.Allocator.{Allocator, free, wordsOf, withSize} 
+use Rattle.allocator.specs.Allocator.{Allocator, free, wordsOf, withSize}
 use Rattle.allocator.specs.Allocator as Allocator
 use Rattle.allocator.specs.Pointers.{due}
 use Rattle.allocator.proofs.Accounts.{due-none}
