@@ -22,7 +22,7 @@ use Rattle.volume.specs.Sound.{Good}
 use Rattle.tables.specs.Tables.{Ready}
 use Rattle.soundness.specs.Check.{sound}
 use Rattle.soundness.proofs.Checked.{sound-true, framed-ready}
-use Rattle.lentilraft.specs.Door.{door, check, setChunkSize}
+use Rattle.lentilraft.specs.Door.{door, doorInto, check, setChunkSize, read}
 use Rattle.lentilraft.specs.Report.{text, leastOutput, report}
 
 -- ---- of a memory that passed the check
@@ -71,6 +71,15 @@ module _ (l out : List ℕ) where
   unfolding report
   report-full e h p q = pick-true _ _ _ _ e (pick-false _ _ _ _ (le-ltb (length out) leastOutput h) (told (ap Done p) q))
 
+module _ (l buffer : List ℕ) (call : Volume → List ℕ → Outcome) where
+  pub into-shut : sound l ≡ false → outcome (Refused UnsoundMemory) buffer ≡ doorInto l buffer call
+  unfolding doorInto
+  into-shut e = pick-false _ _ _ _ e refl
+
+  pub into-open : {o : Outcome} → sound l ≡ true → o ≡ call (shown l) buffer → o ≡ doorInto l buffer call
+  unfolding doorInto
+  into-open e h = pick-true _ _ _ _ e h
+
 -- ---- one possible outcome
 
 -- a promise is one equation: what the call gives back and leaves equals what its definition says. Any two outcomes that it permits are equal.
@@ -85,3 +94,6 @@ one-set-chunk-size s l a b = one-outcome (setChunkSize s l) a b
 
 pub one-report : (l out : List ℕ) (a b : Outcome) → a ≡ report l out → b ≡ report l out → a ≡ b
 one-report l out a b = one-outcome (report l out) a b
+
+pub one-read : (n offset : ℕ) (l buffer : List ℕ) (a b : Outcome) → a ≡ read n offset l buffer → b ≡ read n offset l buffer → a ≡ b
+one-read n offset l buffer a b = one-outcome (read n offset l buffer) a b

@@ -12,6 +12,7 @@ use Rattle.allocator.specs.Allocator as Allocator
 use Rattle.volume.specs.Volume.{Volume, shown, laid, withAllocator}
 use Rattle.volume.specs.Steps.{Step}
 use Rattle.soundness.specs.Check.{sound}
+use Rattle.chunks.specs.Read as Read
 
 unfoldable pub door : List ℕ → (Volume → Step) → Outcome
 door l call = pick (sound l) (outcome (call (shown l) .answer) (laid (call (shown l) .after))) (refused UnsoundMemory l)
@@ -27,3 +28,10 @@ chunkSizeSet s v = record { answer = Allocator.setChunkSize s (v .allocator) .an
 
 unfoldable pub setChunkSize : ℕ → List ℕ → Outcome
 setChunkSize s l = door l (chunkSizeSet s)
+
+-- a call that reads a volume into a buffer: the outcome is the answer and the buffer's bytes
+unfoldable pub doorInto : List ℕ → List ℕ → (Volume → List ℕ → Outcome) → Outcome
+doorInto l buffer call = pick (sound l) (call (shown l) buffer) (refused UnsoundMemory buffer)
+
+unfoldable pub read : ℕ → ℕ → List ℕ → List ℕ → Outcome
+read n offset l buffer = doorInto l buffer (Read.read n offset)

@@ -6,7 +6,7 @@ use types::Answer;
 use types::Error;
 ghost use mathlib.Core.Path.{_≡_};
 ghost use Rattle.types.specs.Outcomes.{outcome};
-ghost use Rattle.lentilraft.specs.Door.{check, setChunkSize};
+ghost use Rattle.lentilraft.specs.Door.{check, setChunkSize, read};
 ghost use Rattle.lentilraft.specs.Report.{report};
 
 // The least room for a report.
@@ -43,4 +43,14 @@ pub fn report(volume: &[u8], out: &mut [u8]) -> Answer
     let layout = volume::read_layout(volume);
     let count = text::put_text(volume, layout, out);
     Answer::Done(count as u64)
+}
+
+pub fn read(volume: &[u8], node: u64, offset: u64, buffer: &mut [u8]) -> Answer
+    ensures { λ r. ⌜ outcome r (now (buffer .exit)) ≡ read node offset (now (volume .entry)) (now (buffer .entry)) ⌝ }
+{
+    if !soundness::sound(volume) {
+        return Answer::Refused(Error::UnsoundMemory);
+    }
+    let layout = volume::read_layout(volume);
+    chunks::read(volume, layout, node, offset, buffer)
 }
