@@ -1,1 +1,6 @@
+pub mod Content
+pub mod Cursor
+pub mod Inside
+pub mod Pieces
+pub mod Given
 pub mod Stored

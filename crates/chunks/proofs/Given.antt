@@ -1,0 +1,146 @@
+-- What a read gives: its two refusals, its count, and the bytes that tables and chunks show of the file.
+-- Assumes nothing.
+use mathlib.Core.Path.{_≡_, refl, sym, ap, _∙_}
+use mathlib.Core.Bool.{Bool, true, false}
+use mathlib.Core.List.{List, [], _∷_, _++_}
+use mathlib.Core.Option.{Option, none, some}
+use Prim.Native.Nat.{ℕ, _+_, _-_, _≤_, _<_}
+use native.Mathlib.Nat.{sub-zero, zero-add}
+use native.Mathlib.Omega.{arith}
+use denote.Enum.Declared.{tagOf}
+use lib.Dec.{eqb}
+use lib.ListN.{length, take, drop, getD, List·getD-append}
+use lib.Seq.{length-take-le, getD-append-add, getD-drop}
+use borrow.Author.Tests.{eqb-true}
+use Rattle.words.specs.Bytes.{over}
+use Rattle.words.specs.Rule.{pick}
+use Rattle.words.specs.Table.{Asc, find}
+use Rattle.words.proofs.Order.{each-at}
+use Rattle.words.proofs.Rules.{pick-true, pick-false}
+use Rattle.types.specs.Sizes.{mostSize}
+use Rattle.types.specs.Nodes.{kindByte, limitWord, fileLimit}
+use Rattle.types.specs.Answers.{number, value}
+use Rattle.types.specs.Outcomes.{refused, done}
+use Rattle.types.specs.declared.Limit.{Limit}
+use Rattle.types.specs.declared.Limit.the-variants.{Unlimited, AtMost}
+use Rattle.types.specs.declared.NodeRecord.{NodeRecord}
+use Rattle.types.specs.declared.Error.the-variants.{NoSuchEntry, IsDirectory}
+use Rattle.volume.specs.Rows.{readNode}
+use Rattle.volume.specs.Volume.{Volume}
+use Rattle.volume.specs.Framed.{NodeFits, Fits}
+use Rattle.volume.specs.Sound.{node, nodeBefore, NodeGood, Good}
+use Rattle.tables.specs.Tables.{nodeAt, foundNode}
+use Rattle.tables.specs.declared.Found.{Found}
+use Rattle.tables.specs.declared.Found.the-variants.{At, Nothing}
+use Rattle.tables.proofs.Found.{the-type}
+use Rattle.tables.proofs.Finds.{node-found, node-absent}
+use Rattle.chunks.specs.Content.{byteAt, bytesFrom}
+use Rattle.chunks.specs.Read.{readCount, read, readFrom}
+use Rattle.chunks.proofs.Content.{length-from, from-at}
+
+-- ---- the row found
+
+-- what a search finds passes its test
+pub found-hits : {R : Type 0} (hit : R → Bool) (rs : List R) (r : R) → find hit rs ≡ some r → hit r ≡ true
+unfolding find pick
+found-hits hit [] r e = let x : _≡_ {A = ℕ} 0 1 = cc in absurd (omega arith)
+found-hits hit (s ∷ rs) r e = go (hit s) refl e (found-hits hit rs r)
+  where
+    go : (b : Bool) → hit s ≡ b → pick b (some s) (find hit rs) ≡ some r → (find hit rs ≡ some r → hit r ≡ true) → hit r ≡ true
+    go true q z k = let w : s ≡ r = cc in rw w at q
+    go false q z k = k z
+
+pub node-is : (n : ℕ) (v : Volume) (r : NodeRecord) → node n v ≡ some r → r .node ≡ n
+unfolding node
+node-is n v r e = eqb-true (r .node) n (found-hits (λ s. eqb (s .node) n) (v .nodes) r e)
+
+limit-most : (m : Limit) → limitWord m ≤ mostSize → fileLimit m ≤ mostSize
+limit-most Unlimited h = omega arith
+limit-most (AtMost n) h = h
+
+-- sizes are at most 2^40
+pub size-most : (v : Volume) → Good v → Fits v → (i : ℕ) → i < length (v .nodes) → nodeAt (v .nodes) i .size ≤ mostSize
+size-most v g f i h =
+    let r = nodeAt (v .nodes) i in
+    let a = each-at (NodeGood (v .entries)) (v .nodes) i (readNode []) (g .nodes) h in
+    let b = each-at NodeFits (v .nodes) i (readNode []) (f .nodeRows) h in
+    omega (arith, a .size, limit-most (r .limit) (b .limit))
+
+-- ---- the ends of a read
+
+module _ (n off : ℕ) (v : Volume) (buffer : List ℕ) where
+  pub no-node : Asc nodeBefore (v .nodes) → (r : Found) → tagOf the-type r ≡ 1 → r ≡ foundNode n (v .nodes) → refused NoSuchEntry buffer ≡ read n off v buffer
+  unfolding read readFrom node
+  no-node a (At i) t h = absurd (omega arith)
+  no-node a Nothing t h = rw (node-absent n (v .nodes) a h)
+
+  module _ {r : Found} {i : ℕ} (k : r ≡ At i) (h : r ≡ foundNode n (v .nodes)) where
+    pub row-found : (i < length (v .nodes)) × (node n v ≡ some (nodeAt (v .nodes) i))
+    unfolding node
+    row-found = node-found n (v .nodes) i (sym k ∙ h)
+
+    -- no byte of the read lies past 2^64
+    pub read-ends : Good v → Fits v → off < 18446744073709551616 → {d : NodeRecord} {count : ℕ} → d ≡ nodeAt (v .nodes) i → (count ≡ readCount (d .size) off (length buffer)) × (count ≤ length buffer)
+        → off + length (take (count - 0) buffer) < 18446744073709551616
+    unfolding readCount
+    read-ends g f s {d} {count} q c =
+        let m : d .size ≤ mostSize = rw q (size-most v g f i (row-found .0)) in
+        rw (sub-zero, length-take-le count buffer (c .1)) (omega (arith, c .0))
+
+    module _ {d : NodeRecord} (q : d ≡ nodeAt (v .nodes) i) {b : Bool} (t : b ≡ eqb (kindByte (d .kind)) 0) where
+      its-node : node n v ≡ some d
+      its-node = row-found .1 ∙ ap some (sym q)
+
+      pub directory-read : b ≡ true → refused IsDirectory buffer ≡ read n off v buffer
+      unfolding read readFrom
+      directory-read e = rw its-node (pick-true _ _ _ _ (sym t ∙ e) refl)
+
+      pub file-read : b ≡ false → {count : ℕ} → (count ≡ readCount (d .size) off (length buffer)) × (count ≤ length buffer) → {ys : List ℕ} → ys ≡ bytesFrom v n off (length (take (count - 0) buffer))
+          → done count (ys ++ drop (count - 0) buffer) ≡ read n off v buffer
+      unfolding read readFrom over
+      file-read e {count} c {ys} y =
+          let w : ys ≡ bytesFrom v n off count = y ∙ ap (bytesFrom v n off) (rw sub-zero (length-take-le count buffer (c .1))) in
+          rw (its-node, node-is n v d its-node, ← c .0) (pick-false _ _ _ _ (sym t ∙ e) (rw (w, sub-zero, length-from v n off count, zero-add)))
+
+-- ---- what an accepted read says of the file
+
+-- a read of `count` bytes of a node's file from byte `off` leaves `bytes` in the buffer
+pub record Shows (n off : ℕ) (v : Volume) (buffer : List ℕ) (count : ℕ) (bytes : List ℕ) : Type 0 where
+  pub row : NodeRecord
+  pub there : node n v ≡ some row
+  pub file : eqb (kindByte (row .kind)) 0 ≡ false
+  pub counted : count ≡ readCount (row .size) off (length buffer)
+  -- the file's bytes, and behind them the buffer as it was
+  pub gives : (i : ℕ) → i < count → getD bytes i 0 ≡ byteAt v n (off + i)
+  pub keeps : (i : ℕ) → count ≤ i → getD bytes i 0 ≡ getD buffer i 0
+
+module _ (n off : ℕ) (v : Volume) (buffer : List ℕ) where
+  over-gives : (count i : ℕ) → i < count → getD (over buffer 0 (bytesFrom v n off count)) i 0 ≡ byteAt v n (off + i)
+  unfolding over
+  over-gives count i h = List·getD-append (bytesFrom v n off count) _ 0 i (rw (length-from v n off count) h) ∙ from-at v n off count i h
+
+  over-keeps : (count i : ℕ) → count ≤ i → getD (over buffer 0 (bytesFrom v n off count)) i 0 ≡ getD buffer i 0
+  unfolding over
+  over-keeps count i h =
+      let e : i ≡ length (bytesFrom v n off count) + (i - count) = omega (arith, length-from v n off count) in
+      let d = drop (0 + length (bytesFrom v n off count)) buffer in
+      let z : 0 + length (bytesFrom v n off count) + (i - count) ≡ i = omega (arith, length-from v n off count) in
+      ap (λ (k : ℕ). getD (bytesFrom v n off count ++ d) k 0) e
+      ∙ getD-append-add (bytesFrom v n off count) d (i - count) 0 ∙ getD-drop (0 + length (bytesFrom v n off count)) buffer (i - count) 0 ∙ ap (λ (k : ℕ). getD buffer k 0) z
+
+  pub read-shows : {count : ℕ} {bytes : List ℕ} → done count bytes ≡ read n off v buffer → Shows n off v buffer count bytes
+  unfolding read readFrom pick
+  read-shows {count} {bytes} e = from-row (node n v) refl e
+    where
+      from-file : (r : NodeRecord) → node n v ≡ some r → (b : Bool) → eqb (kindByte (r .kind)) 0 ≡ b
+          → done count bytes ≡ pick b (refused IsDirectory buffer) (done (readCount (r .size) off (length buffer)) (over buffer 0 (bytesFrom v (r .node) off (readCount (r .size) off (length buffer)))))
+          → Shows n off v buffer count bytes
+      from-file r q true k e = let z : _≡_ {A = ℕ} 0 3 = ap (λ o. number (o .answer)) e in absurd (omega arith)
+      from-file r q false k e =
+          let c : count ≡ readCount (r .size) off (length buffer) = ap (λ o. value (o .answer)) e in
+          let b : bytes ≡ over buffer 0 (bytesFrom v n off count) = ap (λ o. o .bytes) e ∙ rw (node-is n v r q, ← c) in
+          record { row = r; there = q; file = k; counted = c; gives = λ i h. rw b (over-gives count i h); keeps = λ i h. rw b (over-keeps count i h) }
+
+      from-row : (o : Option NodeRecord) → node n v ≡ o → done count bytes ≡ readFrom v off buffer o → Shows n off v buffer count bytes
+      from-row none q e = let z : _≡_ {A = ℕ} 0 2 = ap (λ o. number (o .answer)) e in absurd (omega arith)
+      from-row (some r) q e = from-file r q (eqb (kindByte (r .kind)) 0) refl e
