@@ -4,3 +4,4 @@ pub mod Inside
 pub mod Pieces
 pub mod Given
 pub mod Stored
+pub mod FoundRows
