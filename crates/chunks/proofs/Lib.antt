@@ -5,3 +5,4 @@ pub mod Pieces
 pub mod Given
 pub mod Stored
 pub mod FoundRows
+pub mod Allocated
