@@ -6,3 +6,4 @@ pub mod Given
 pub mod Stored
 pub mod FoundRows
 pub mod Allocated
+pub mod RowPlaces
