@@ -7,3 +7,4 @@ pub mod Stored
 pub mod FoundRows
 pub mod Allocated
 pub mod RowPlaces
+pub mod TakenChunk
