@@ -8,3 +8,5 @@ pub mod FoundRows
 pub mod Allocated
 pub mod RowPlaces
 pub mod TakenChunk
+pub mod EnsuredChunk
+pub mod KeptFields
