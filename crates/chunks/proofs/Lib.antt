@@ -10,3 +10,4 @@ pub mod RowPlaces
 pub mod TakenChunk
 pub mod EnsuredChunk
 pub mod KeptFields
+pub mod PutPiece
