@@ -11,3 +11,4 @@ pub mod TakenChunk
 pub mod EnsuredChunk
 pub mod KeptFields
 pub mod PutPiece
+pub mod WrittenChunks
