@@ -12,3 +12,5 @@ pub mod EnsuredChunk
 pub mod KeptFields
 pub mod PutPiece
 pub mod WrittenChunks
+pub mod WrittenBytes
+pub mod HoleCount
