@@ -1,20 +1,18 @@
 -- What a write leaves of a volume: all but the chunk rows, the free count, the next pointer and the chunk area. And that it still fits.
 -- Assumes nothing.
-use mathlib.Core.Path.{_≡_, refl, sym, ap, _∙_}
-use mathlib.Core.List.{List, []}
+use mathlib.Core.Path.{_≡_, refl, ap, _∙_}
+use mathlib.Core.List.{List}
 use mathlib.Core.Option.{Option, none, some}
-use Prim.Native.Nat.{ℕ, zero, suc, _+_, _*_, _^_, _≤_, _<_}
+use Prim.Native.Nat.{ℕ, zero, suc, _*_, _^_, _≤_, _<_}
 use native.Mathlib.Nat.{mul-le-mul}
 use native.Mathlib.Omega.{arith}
 use lib.ListN.{length}
 use Rattle.words.specs.Table.{Each, lead, insertAt}
 use Rattle.words.proofs.Order.{each-insert}
-use Rattle.types.specs.declared.NodeRecord.{NodeRecord}
-use Rattle.allocator.specs.Allocator.{Allocator, allocate, wordsOf}
+use Rattle.allocator.specs.Allocator.{allocate, wordsOf}
 use Rattle.allocator.proofs.Sized.{accepted-bounds}
 use Rattle.allocator.proofs.Laid as AllocatorLaid
 use Rattle.volume.specs.declared.ChunkRow.{ChunkRow}
-use Rattle.volume.specs.Rows.{Entry}
 use Rattle.volume.specs.Search.{chunkUnder}
 use Rattle.volume.specs.Volume.{Volume, withAllocator, withChunks}
 use Rattle.volume.specs.Framed.{ChunkFits, Fits}

@@ -5,11 +5,11 @@ use mathlib.Core.Path.{_≡_, refl, sym, ap, _∙_}
 use mathlib.Core.Bool.{Bool, true, false}
 use mathlib.Core.List.{List}
 use mathlib.Core.Option.{Option, none, some}
-use Prim.Native.Nat.{ℕ, suc, _+_, _-_, _*_, _/_, _%_, min, max, _≤_, _<_}
+use Prim.Native.Nat.{ℕ, _+_, _-_, _*_, _/_, _%_, _≤_, _<_}
 use native.Mathlib.Nat.{mod-lt}
 use native.Mathlib.Omega.{arith}
 use lib.ListN.{length, getD}
-use Rattle.words.specs.Bytes.{part, over}
+use Rattle.words.specs.Bytes.{over}
 use Rattle.words.proofs.Rules.{Says, holds, fails}
 use Rattle.words.proofs.Parts.{length-part, length-over}
 use Rattle.words.proofs.Numbers.{getD-over-before, getD-over-after}
@@ -39,7 +39,7 @@ pub data Away (s n offset len k c m j : ℕ) : Type 0 where
   lower : j / s < k → Away s n offset len k c m j
   higher : k + c ≤ j / s → Away s n offset len k c m j
 
--- rows and rooms stay
+-- rows stay
 pub put-rows : (n offset : ℕ) (bs : List ℕ) (k : ℕ) (v : Volume) → put n offset bs k v .chunks ≡ v .chunks
 unfolding put putFor
 put-rows n offset bs k v = go (chunk n k (v .chunks))

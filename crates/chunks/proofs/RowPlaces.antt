@@ -12,7 +12,6 @@ use native.Mathlib.Decide.{decLt}
 use native.Mathlib.Omega.{arith}
 use lib.ListN.{length, getD}
 use Rattle.words.specs.Bytes.{over}
-use Rattle.words.specs.Rule.{count}
 use Rattle.words.specs.Table.{Each, Asc}
 use Rattle.words.proofs.Rules.{says-true, true-says}
 use Rattle.words.proofs.Order.{asc-map}

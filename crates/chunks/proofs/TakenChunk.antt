@@ -3,17 +3,17 @@
 -- Assumes nothing.
 use mathlib.Core.Path.{_≡_, refl, sym, ap, _∙_, subst}
 use mathlib.Core.Bool.{Bool, true, false}
-use mathlib.Core.Logic.{_⊎_, inl, inr}
+use mathlib.Core.Logic.{inl, inr}
 use mathlib.Core.List.{List, _∷_, map}
 use mathlib.Core.Option.{Option, none, some}
-use Prim.Native.Nat.{ℕ, suc, _+_, _-_, _*_, _/_, _%_, _≤_, _<_}
+use Prim.Native.Nat.{ℕ, suc, _+_, _-_, _/_, _%_, _≤_, _<_}
 use native.Mathlib.Nat.{mod-lt}
 use native.Mathlib.Decide.{decLt}
 use native.Mathlib.Omega.{arith}
 use lib.ListN.{length, getD, getD-replicate, length-map}
-use Rattle.words.specs.Bytes.{over, zeros}
+use Rattle.words.specs.Bytes.{zeros}
 use Rattle.words.specs.Rule.{count}
-use Rattle.words.specs.Table.{Each, Asc, lead, insertAt}
+use Rattle.words.specs.Table.{Asc, lead, insertAt}
 use Rattle.words.proofs.Rules.{Says, holds, fails, says-true, true-says}
 use Rattle.words.proofs.Order.{insert-asc, each-map}
 use Rattle.words.proofs.Parts.{length-over, length-zeros}

@@ -1,7 +1,7 @@
 -- A write of bytes, its chunks taken in index order: the volume stays stored, shows the bytes, and elsewhere what it showed; rows stay, and
 -- a new one is of a touched chunk. Over any chunk size.
 -- Assumes nothing.
-use mathlib.Core.Path.{_≡_, refl, sym, ap, _∙_}
+use mathlib.Core.Path.{_≡_, sym, _∙_}
 use mathlib.Core.Bool.{Bool, true, false}
 use mathlib.Core.List.{List}
 use mathlib.Core.Option.{none, some, Option·none-ne-some}

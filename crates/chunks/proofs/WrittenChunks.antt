@@ -1,6 +1,6 @@
 -- Bytes written chunk by chunk, in index order: one chunk, and c of them. Over any chunk size.
 -- Assumes nothing.
-use mathlib.Core.Path.{_≡_, refl, sym, ap, _∙_}
+use mathlib.Core.Path.{_≡_, refl, ap, _∙_}
 use mathlib.Core.List.{List}
 use mathlib.Core.Option.{some}
 use Prim.Native.Nat.{ℕ, zero, suc, _+_, _-_, _/_, _^_, _≤_, _<_}
@@ -11,11 +11,11 @@ use Rattle.volume.specs.declared.ChunkRow.{ChunkRow}
 use Rattle.volume.specs.Volume.{Volume}
 use Rattle.volume.specs.Framed.{Fits}
 use Rattle.chunks.specs.Content.{chunk, byteAt}
-use Rattle.chunks.specs.Store.{room, hole, missing, ensured, put, writeChunk, writeChunks}
+use Rattle.chunks.specs.Store.{room, hole, missing, ensured, writeChunk, writeChunks}
 use Rattle.chunks.proofs.Stored.{Stored}
 use Rattle.chunks.proofs.RowPlaces.{Other}
 use Rattle.chunks.proofs.EnsuredChunk.{ensured-stored, ensured-byte, ensured-long, ensured-room, ensured-found, ensured-other, ensured-keeps}
-use Rattle.chunks.proofs.KeptFields.{Kept, kept-ensured, kept-writeChunk, fits-ensured}
+use Rattle.chunks.proofs.KeptFields.{kept-ensured, kept-writeChunk, fits-ensured}
 use Rattle.chunks.proofs.PutPiece.{Touched, Away, other-node, before, behind, lower, higher, put-rows, put-long, put-stored, put-room, put-in, put-away, fits-put}
 
 -- ---- one chunk
