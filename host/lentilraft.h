@@ -47,6 +47,11 @@ uint32_t lentilraft_open_allocator(uint8_t *words, size_t length);
 /* Sets the chunk size. 1: unsound memory. 13: not accepted, or another than now after a chunk was given out. */
 uint32_t lentilraft_set_chunk_size(uint8_t *volume, size_t length, uint64_t size);
 
+/* Reads bytes of a file from an offset on, and tells how many: as many as the buffer has, or as the file has behind the offset. Bytes that were
+   never written read as zero; the buffer stays as it was past the count.
+   1: unsound memory. 2: no such node. 3: a directory. The count of a refusal is 0. */
+uint32_t lentilraft_read(const uint8_t *volume, size_t length, uint64_t node, uint64_t offset, uint8_t *buffer, size_t buffer_length, uint64_t *count);
+
 /* Writes the report, lines `key=value`, to out, and tells how many bytes it has; out stays as it was past the count.
    1: unsound memory. 15: out is shorter than 512 bytes. The count of a refusal is 0. */
 uint32_t lentilraft_report(const uint8_t *volume, size_t length, uint8_t *out, size_t out_length, uint64_t *count);

@@ -4,7 +4,7 @@ ghost use mathlib.Core.Path.{_≡_};
 ghost use Rattle.types.specs.Answers.{number, value};
 ghost use Rattle.allocator.specs.Opening.{opened};
 ghost use Rattle.volume.specs.Fresh.{newVolume};
-ghost use Rattle.lentilraft.specs.Door.{check, setChunkSize};
+ghost use Rattle.lentilraft.specs.Door.{check, setChunkSize, read};
 ghost use Rattle.lentilraft.specs.Report.{report};
 
 #[no_mangle]
@@ -42,6 +42,21 @@ pub extern "C" fn lentilraft_set_chunk_size(volume: &mut [u8], size: u64) -> u32
 }
 
 // The count goes through a lent place: 0 for a refusal.
+#[no_mangle]
+pub extern "C" fn lentilraft_read(
+    volume: &[u8],
+    node: u64,
+    offset: u64,
+    buffer: &mut [u8],
+    count: &mut u64,
+) -> u32
+    ensures { λ r. ⌜ (r ≡ number (read node offset (now (volume .entry)) (now (buffer .entry)) .answer)) × (now (buffer .exit) ≡ read node offset (now (volume .entry)) (now (buffer .entry)) .bytes) × (now (count .exit) ≡ value (read node offset (now (volume .entry)) (now (buffer .entry)) .answer)) ⌝ }
+{
+    let answer = lentilraft::read(volume, node, offset, buffer);
+    *count = types::value(answer);
+    types::number(answer)
+}
+
 #[no_mangle]
 pub extern "C" fn lentilraft_report(volume: &[u8], out: &mut [u8], count: &mut u64) -> u32
     ensures { λ r. ⌜ (r ≡ number (report (now (volume .entry)) (now (out .entry)) .answer)) × (now (out .exit) ≡ report (now (volume .entry)) (now (out .entry)) .bytes) × (now (count .exit) ≡ value (report (now (volume .entry)) (now (out .entry)) .answer)) ⌝ }
