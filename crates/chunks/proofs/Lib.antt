@@ -4,3 +4,13 @@ pub mod Inside
 pub mod Pieces
 pub mod Given
 pub mod Stored
+pub mod FoundRows
+pub mod Allocated
+pub mod RowPlaces
+pub mod TakenChunk
+pub mod EnsuredChunk
+pub mod KeptFields
+pub mod PutPiece
+pub mod WrittenChunks
+pub mod WrittenBytes
+pub mod HoleCount
