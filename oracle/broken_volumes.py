@@ -9,6 +9,10 @@ rewrites stdin (volumes and cases, as oracle/README.md tells) and stdout (what e
 oracle/sound_volumes.py, the cases in oracle/breakings.py. Every case states which rules it breaks, and oracle/judge.py, which sees only
 the bytes, must name the same ones; else nothing is written. It knows nothing of the Rattle code but the order of the numbers and what is
 printed.
+
+    python3 oracle/broken_volumes.py FOLDER bulk
+
+writes longer lists of the same form into FOLDER, with changes at random (oracle/chance.py) and the judge's verdict on them.
 """
 import collections
 import os

@@ -64,8 +64,9 @@ def some_entry(random, v):
 def some_move(random, v):
     if not v.entries:
         return some_entry(random, v)
-    fields = {"parent": some_directory(random, v), "node": some_node(random, v), "name": some_name(random, v), "index": random.randrange(12)}
-    return breakings.move_entry(random.randrange(len(v.entries)), **dict([random.choice(list(fields.items()))]))
+    numbers = [("parent", some_directory(random, v)), ("node", some_node(random, v)), ("index", random.randrange(12))]
+    field, value = random.choice([*numbers, ("name", some_name(random, v))])
+    return breakings.move_entry(random.randrange(len(v.entries)), **{field: value})
 
 
 def some_removal(random, v):
