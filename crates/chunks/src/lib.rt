@@ -1,1 +1,4 @@
-// Files of a sound volume.
+// Files of a sound volume: their bytes read, written, cut and extended, chunk by chunk, and their limits.
+mod limits;
+
+pub use limits::set_limit;
