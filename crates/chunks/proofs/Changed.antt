@@ -16,7 +16,8 @@ use Rattle.words.proofs.Rules.{Says, holds, fails, says-eqb}
 use Rattle.words.proofs.Order.{each-at, each-map}
 use Rattle.types.specs.declared.NodeRecord.{NodeRecord}
 use Rattle.volume.specs.Rows.{readNode}
-use Rattle.volume.specs.Sound.{nodeBefore}
+use Rattle.volume.specs.Volume.{Volume}
+use Rattle.volume.specs.Sound.{node, nodeBefore}
 use Rattle.volume.specs.Steps.{changed}
 use Rattle.tables.specs.Tables.{nodeAt, foundNode}
 use Rattle.tables.specs.declared.Found.the-variants.{At}
@@ -31,6 +32,20 @@ found-hits hit (s ∷ rs) r e = go (hit s) refl e (found-hits hit rs r)
     go : (b : Bool) → hit s ≡ b → pick b (some s) (find hit rs) ≡ some r → (find hit rs ≡ some r → hit r ≡ true) → hit r ≡ true
     go true q z k = let w : s ≡ r = cc in rw w at q
     go false q z k = k z
+
+pub node-is : (n : ℕ) (v : Volume) (r : NodeRecord) → node n v ≡ some r → r .node ≡ n
+unfolding node
+node-is n v r e = eqb-true (r .node) n (found-hits (λ s. eqb (s .node) n) (v .nodes) r e)
+
+-- what holds of every row holds of the row that is found
+pub each-found : {R : Type 0} (P : R → Type 0) (hit : R → Bool) (rs : List R) (r : R) → Each P rs → find hit rs ≡ some r → P r
+unfolding find Each pick
+each-found P hit [] r h e = let x : _≡_ {A = ℕ} 0 1 = cc in absurd (omega arith)
+each-found P hit (s ∷ rs) r h e = go (hit s) e (each-found P hit rs r (h .1))
+  where
+    go : (b : Bool) → pick b (some s) (find hit rs) ≡ some r → (find hit rs ≡ some r → P r) → P r
+    go true z k = let w : s ≡ r = cc in rw w at (h .0)
+    go false z k = k z
 
 -- behind a row of an ascending table no row has its number
 others : (n : ℕ) (r : NodeRecord) (rs : List NodeRecord) → r .node ≡ n → Each (nodeBefore r) rs → Each (λ s. eqb (s .node) n ≡ false) rs

@@ -1,3 +1,4 @@
 pub mod Changed
+pub mod Changing
 pub mod Limited
 pub mod Stored
