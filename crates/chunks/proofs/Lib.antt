@@ -18,4 +18,5 @@ pub mod PutPiece
 pub mod WrittenChunks
 pub mod WrittenBytes
 pub mod OwnedContent
+pub mod SizeSet
 pub mod HoleCount
