@@ -19,4 +19,5 @@ pub mod WrittenChunks
 pub mod WrittenBytes
 pub mod OwnedContent
 pub mod SizeSet
+pub mod WriteKept
 pub mod HoleCount
