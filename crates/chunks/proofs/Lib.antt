@@ -20,4 +20,5 @@ pub mod WrittenBytes
 pub mod OwnedContent
 pub mod SizeSet
 pub mod WriteKept
+pub mod PosixWrite
 pub mod HoleCount
