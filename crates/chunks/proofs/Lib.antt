@@ -2,9 +2,13 @@ pub mod Content
 pub mod Cursor
 pub mod Inside
 pub mod Pieces
-pub mod Given
-pub mod Stored
 pub mod FoundRows
+pub mod Changed
+pub mod GoodParts
+pub mod Changing
+pub mod Given
+pub mod Limited
+pub mod Stored
 pub mod Allocated
 pub mod RowPlaces
 pub mod TakenChunk
@@ -13,4 +17,8 @@ pub mod KeptFields
 pub mod PutPiece
 pub mod WrittenChunks
 pub mod WrittenBytes
+pub mod OwnedContent
+pub mod SizeSet
+pub mod WriteKept
+pub mod PosixWrite
 pub mod HoleCount

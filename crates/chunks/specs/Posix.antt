@@ -2,11 +2,18 @@
 -- Assumes nothing.
 use mathlib.Core.Path.{_≡_}
 use Prim.Native.Nat.{ℕ, _≤_, _<_}
+use Rattle.types.specs.declared.NodeRecord.{NodeRecord}
+use Rattle.volume.specs.Volume.{Volume}
+use Rattle.chunks.specs.Content.{byteAt}
 
 -- a file as the standard speaks of it: its size, and its bytes
 pub record File : Type 0 where
   pub size : ℕ
   pub byte : ℕ → ℕ
+
+-- the file of a node's row
+abbrev pub fileOf : NodeRecord → Volume → File
+fileOf r v = record { size = r .size; byte = byteAt v (r .node) }
 
 -- lseek: the offset may be set beyond the end of the file; "if data is later written at this point, subsequent reads of data in the gap
 -- shall return bytes with the value 0 until data is actually written into the gap"

@@ -1,4 +1,6 @@
-// Files of a sound volume: their bytes read, written, cut and extended, chunk by chunk.
+// Files of a sound volume: their bytes read, written, cut and extended, chunk by chunk, and their limits.
+mod limits;
 mod reading;
 
+pub use limits::set_limit;
 pub use reading::read;
