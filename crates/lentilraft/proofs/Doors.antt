@@ -8,6 +8,7 @@ use lib.ListN.{length}
 use borrow.Author.Tests.{lt-ltb, le-ltb}
 use Rattle.words.specs.Bytes.{Bytes, word, over}
 use Rattle.words.proofs.Rules.{pick-true, pick-false}
+use Rattle.types.specs.declared.Limit.{Limit}
 use Rattle.types.specs.declared.Answer.{Answer}
 use Rattle.types.specs.declared.Answer.the-variants.{Done, Refused}
 use Rattle.types.specs.declared.Error.the-variants.{UnsoundMemory, OutputTooShort}
@@ -21,7 +22,7 @@ use Rattle.volume.specs.Sound.{Good}
 use Rattle.tables.specs.Tables.{Ready}
 use Rattle.soundness.specs.Check.{sound}
 use Rattle.soundness.proofs.Checked.{sound-true, framed-ready}
-use Rattle.lentilraft.specs.Door.{door, doorInto, check, setChunkSize, read}
+use Rattle.lentilraft.specs.Door.{door, doorInto, check, setChunkSize, setLimit, read}
 use Rattle.lentilraft.specs.Report.{text, leastOutput, report}
 
 -- ---- of a memory that passed the check
@@ -96,3 +97,6 @@ one-report l out a b = one-outcome (report l out) a b
 
 pub one-read : (n offset : ℕ) (l buffer : List ℕ) (a b : Outcome) → a ≡ read n offset l buffer → b ≡ read n offset l buffer → a ≡ b
 one-read n offset l buffer a b = one-outcome (read n offset l buffer) a b
+
+pub one-set-limit : (n : ℕ) (m : Limit) (l : List ℕ) (a b : Outcome) → a ≡ setLimit n m l → b ≡ setLimit n m l → a ≡ b
+one-set-limit n m l a b = one-outcome (setLimit n m l) a b
