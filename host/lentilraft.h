@@ -52,6 +52,11 @@ uint32_t lentilraft_set_chunk_size(uint8_t *volume, size_t length, uint64_t size
    1: unsound memory. 2: no such node. 3: a directory. The count of a refusal is 0. */
 uint32_t lentilraft_read(const uint8_t *volume, size_t length, uint64_t node, uint64_t offset, uint8_t *buffer, size_t buffer_length, uint64_t *count);
 
+/* Sets a limit of a file's size, at most 2^40 and not below its size; or clears it, so that 2^40 is the limit.
+   1: unsound memory. 2: no such node. 3: a directory. 13: above 2^40. 5: below the file's size. */
+uint32_t lentilraft_set_limit(uint8_t *volume, size_t length, uint64_t node, uint64_t limit);
+uint32_t lentilraft_clear_limit(uint8_t *volume, size_t length, uint64_t node);
+
 /* Writes the report, lines `key=value`, to out, and tells how many bytes it has; out stays as it was past the count.
    1: unsound memory. 15: out is shorter than 512 bytes. The count of a refusal is 0. */
 uint32_t lentilraft_report(const uint8_t *volume, size_t length, uint8_t *out, size_t out_length, uint64_t *count);

@@ -1,10 +1,12 @@
 // The public calls for programs in C or Rust. Each function here is a call and the scope's numbers of its answer, and nothing else: it asks
 // nothing of its caller, and gives back 0 or the number of a refusal.
+use types::Limit;
 ghost use mathlib.Core.Path.{_≡_};
+ghost use Rattle.types.specs.declared.Limit.the-variants.{Unlimited, AtMost};
 ghost use Rattle.types.specs.Answers.{number, value};
 ghost use Rattle.allocator.specs.Opening.{opened};
 ghost use Rattle.volume.specs.Fresh.{newVolume};
-ghost use Rattle.lentilraft.specs.Door.{check, setChunkSize, read};
+ghost use Rattle.lentilraft.specs.Door.{check, setChunkSize, setLimit, read};
 ghost use Rattle.lentilraft.specs.Report.{report};
 
 #[no_mangle]
@@ -64,4 +66,18 @@ pub extern "C" fn lentilraft_report(volume: &[u8], out: &mut [u8], count: &mut u
     let answer = lentilraft::report(volume, out);
     *count = types::value(answer);
     types::number(answer)
+}
+
+#[no_mangle]
+pub extern "C" fn lentilraft_set_limit(volume: &mut [u8], node: u64, limit: u64) -> u32
+    ensures { λ r. ⌜ (r ≡ number (setLimit node (AtMost limit) (now (volume .entry)) .answer)) × (now (volume .exit) ≡ setLimit node (AtMost limit) (now (volume .entry)) .bytes) ⌝ }
+{
+    types::number(lentilraft::set_limit(volume, node, Limit::AtMost(limit)))
+}
+
+#[no_mangle]
+pub extern "C" fn lentilraft_clear_limit(volume: &mut [u8], node: u64) -> u32
+    ensures { λ r. ⌜ (r ≡ number (setLimit node Unlimited (now (volume .entry)) .answer)) × (now (volume .exit) ≡ setLimit node Unlimited (now (volume .entry)) .bytes) ⌝ }
+{
+    types::number(lentilraft::set_limit(volume, node, Limit::Unlimited))
 }
