@@ -7,10 +7,11 @@ use mathlib.Core.Option.{Option, none, some}
 use Prim.Native.Nat.{ℕ, zero, suc, _+_, _-_, _*_, _/_, _%_, _^_, _≤_, _<_, max}
 use native.Mathlib.Omega.{arith}
 use lib.Dec.{eqb, ltb}
-use lib.ListN.{length}
-use borrow.Author.Tests.{eq-eqb, ne-eqb}
+use lib.ListN.{length, take, length-take}
+use borrow.Author.Tests.{eq-eqb, ne-eqb, le-ltb}
 use Rattle.words.specs.Bytes.{over}
-use Rattle.words.specs.Rule.{pick}
+use Rattle.words.specs.Rule.{pick, both, bit, times, count}
+use Rattle.words.specs.Table.{find, lead, leadOf, insertAt}
 use Rattle.words.proofs.Rules.{pick-true, pick-false}
 use Rattle.types.specs.Nodes.{kindByte, fileLimit}
 use Rattle.types.specs.declared.Answer.the-variants.{Done, Refused}
@@ -20,9 +21,19 @@ use Rattle.types.specs.declared.Limit.the-variants.{Unlimited}
 use Rattle.types.specs.declared.NodeRecord.{NodeRecord}
 use Rattle.volume.specs.declared.ChunkRow.{ChunkRow}
 use Rattle.volume.specs.Volume.{Volume}
+use Rattle.volume.specs.Search.{pairBefore}
 use Rattle.volume.specs.Sound.{node}
 use Rattle.volume.specs.Steps.{Step, stays, becomes, withNode}
-use Rattle.chunks.specs.Write.{write, writeFor}
+use Rattle.allocator.specs.Allocator.{free, allocate}
+use Rattle.allocator.proofs.Accounts.{due-none}
+use Rattle.chunks.proofs.Changed.{node-is}
+use Rattle.tables.specs.Tables.{sized}
+use Rattle.chunks.specs.Content.{chunk}
+use Rattle.chunks.specs.Store.{room, missing, writeChunks, writeChunk, put, putFor, ensured, ensuredFor, taken}
+use Rattle.chunks.specs.Write.{holes, written, write, writeFor}
+use Rattle.chunks.proofs.WriteKept.{endOf, wrote}
+use Rattle.chunks.proofs.SizeSet.{sized-here}
+use Rattle.chunks.proofs.KeptFields.{kept-written}
 use Rattle.chunks.specs.Boundary.{Start, row, P1, P2, P3, P4, P5, P6, P7}
 
 pub p4 : (n : ℕ) (r : NodeRecord) (v : Volume) → Start n r v → P4 n v
@@ -32,3 +43,150 @@ p4 n r v s = rw (s .there, s .file) (refl, refl)
 pub p5 : (n : ℕ) (r : NodeRecord) (v : Volume) (b : ℕ) → Start n r v → P5 n v b
 unfolding write writeFor pick
 p5 n r v b s = rw (s .there, s .file, s .unlimited) (refl, refl)
+
+-- ---- the volume to start from, as its parts
+
+-- v with chunks of 16,384 bytes, no free pointer, this next pointer and these rows, and these bytes
+abbrev shape : Volume → ℕ → List ChunkRow → List ℕ → Volume
+shape v next cs bytes = record {
+  nodeRoom = v .nodeRoom;
+  entryRoom = v .entryRoom;
+  chunkRoom = v .chunkRoom;
+  nextNode = v .nextNode;
+  allocator = record { mark = v .allocator .mark; chunkSize = 16384; freeCount = 0; nextPtr = next; unread = v .allocator .unread; words = v .allocator .words };
+  nodes = v .nodes;
+  entries = v .entries;
+  chunks = cs;
+  bytes = bytes;
+}
+
+-- of which so much is known
+record Shaped (v : Volume) (next : ℕ) (cs : List ChunkRow) : Type 0 where
+  pub size : v .allocator .chunkSize ≡ 16384
+  pub free : v .allocator .freeCount ≡ 0
+  pub unused : v .allocator .nextPtr ≡ next
+  pub rows : v .chunks ≡ cs
+
+shaped : (v : Volume) (next : ℕ) (cs : List ChunkRow) → Shaped v next cs → shape v next cs (v .bytes) ≡ v
+shaped v next cs s = sym (λ i. record {
+  nodeRoom = v .nodeRoom;
+  entryRoom = v .entryRoom;
+  chunkRoom = v .chunkRoom;
+  nextNode = v .nextNode;
+  allocator = record { mark = v .allocator .mark; chunkSize = s .size i; freeCount = s .free i; nextPtr = s .unused i; unread = v .allocator .unread; words = v .allocator .words };
+  nodes = v .nodes;
+  entries = v .entries;
+  chunks = s .rows i;
+  bytes = v .bytes;
+})
+
+-- while word 3 is 0 no chunk is in use, and none is free
+none-counted : (l : List ℕ) → ((p : ℕ) → count p l ≡ 0) → l ≡ []
+unfolding count times bit
+none-counted [] h = refl
+none-counted (q ∷ l) h =
+    let e : eqb q q ≡ true = eq-eqb q q refl in
+    let k = rw e at (h q) in
+    absurd (omega (arith, k))
+
+module _ (n : ℕ) (r : NodeRecord) (v : Volume) (s : Start n r v) where
+  none-used : (p : ℕ) → count p (map (λ c. c .pointer) (v .chunks)) + count p (free (v .allocator)) ≡ 0
+  none-used p = s .good .pointers p ∙ due-none (v .allocator .chunkSize) (v .allocator .nextPtr) p (omega (arith, s .unused))
+
+  no-rows : v .chunks ≡ []
+  no-rows = go (v .chunks) (none-counted (map (λ c. c .pointer) (v .chunks)) (λ p. omega (arith, none-used p)))
+    where
+      go : (cs : List ChunkRow) → map (λ c. c .pointer) cs ≡ [] → cs ≡ []
+      go [] e = refl
+      go (c ∷ cs) e = absurd (omega (arith, ap length e))
+
+  none-free : v .allocator .freeCount ≡ 0
+  unfolding free
+  none-free =
+      let e : free (v .allocator) ≡ [] = none-counted (free (v .allocator)) (λ p. omega (arith, none-used p)) in
+      let k : length (take (v .allocator .freeCount) (v .allocator .words)) ≡ 0 = ap length e in
+      omega (arith, k, length-take (v .allocator .freeCount) (v .allocator .words), s .fits .words, s .fits .free)
+
+  start-shaped : Shaped v 0 []
+  start-shaped = record { size = s .size; free = none-free; unused = s .unused; rows = no-rows }
+
+  area : 65536 ≤ length (v .bytes)
+  area = omega (arith, s .fits .placed .long)
+
+  number : r .node ≡ n
+  number = node-is n v r (s .there)
+
+-- ---- chunks taken
+
+module _ (n offset : ℕ) (bs : List ℕ) (v : Volume) where
+  -- the first one
+  first : (k : ℕ) (bytes : List ℕ) → writeChunk n offset bs k (shape v 0 [] bytes) ≡ shape v 16384 (row n k 0 ∷ []) (writeChunk n offset bs k (shape v 0 [] bytes) .bytes)
+  unfolding writeChunk put putFor ensured ensuredFor taken allocate chunk pick both find insertAt lead
+  first k bytes = rw (eq-eqb n n refl, eq-eqb k k refl) refl
+
+  -- the one behind it
+  second : (bytes : List ℕ) → writeChunk n offset bs 1 (shape v 16384 (row n 0 0 ∷ []) bytes) ≡ shape v 32768 (row n 0 0 ∷ row n 1 16384 ∷ []) (writeChunk n offset bs 1 (shape v 16384 (row n 0 0 ∷ []) bytes) .bytes)
+  unfolding writeChunk put putFor ensured ensuredFor taken allocate chunk pick both find insertAt lead leadOf pairBefore
+  second bytes = rw (eq-eqb n n refl, eq-eqb n n refl, eq-eqb n n refl) refl
+
+-- ---- the calls when they are accepted
+
+module _ (n : ℕ) (r : NodeRecord) (v : Volume) (there : node n v ≡ some r) (file : r .kind ≡ RegularFile) where
+  not-directory : eqb (kindByte (r .kind)) 0 ≡ false
+  not-directory = rw file refl
+
+  writes : (offset : ℕ) (bs : List ℕ) → (length bs ≡ 0 → ⊥) → offset + length bs ≤ fileLimit (r .limit) → holes n offset (length bs) v ≤ room v → write n offset bs v ≡ becomes (length bs) (wrote n offset bs r v)
+  unfolding write writeFor
+  writes offset bs h l e =
+      let i : r .node ≡ n = node-is n v r there in
+      rw (there, i) (sym (pick-false _ _ _ _ not-directory (pick-false _ _ _ _ (ne-eqb _ _ h) (pick-false _ _ _ _ (le-ltb _ _ l) (pick-false _ _ _ _ (le-ltb _ _ e) refl)))))
+
+-- three bytes
+three : (P : List ℕ → Type 0) → ((a b c : ℕ) → P (a ∷ b ∷ c ∷ [])) → (bs : List ℕ) → length bs ≡ 3 → P bs
+three P f [] h = absurd (omega arith)
+three P f (a ∷ []) h = absurd (omega arith)
+three P f (a ∷ b ∷ []) h = absurd (omega arith)
+three P f (a ∷ b ∷ c ∷ []) h = f a b c
+three P f (a ∷ b ∷ c ∷ d ∷ l) h = absurd (omega arith)
+
+module _ (n : ℕ) (r : NodeRecord) (v : Volume) (s : Start n r v) where
+  abbrev u : Volume
+  u = shape v 0 [] (v .bytes)
+
+  its-row : node n u ≡ some r
+  unfolding node
+  its-row = s .there
+
+  two-left : 2 ≤ room u
+  unfolding room
+  two-left = omega (arith, s .room, area n r v s)
+
+  limit : fileLimit (r .limit) ≡ 1099511627776
+  limit = rw (s .unlimited) refl
+
+  module _ (a b c : ℕ) where
+    abbrev bytes : List ℕ
+    bytes = a ∷ b ∷ c ∷ []
+
+    two-written : written n 16383 bytes u ≡ shape v 32768 (row n 0 0 ∷ row n 1 16384 ∷ []) (written n 16383 bytes u .bytes)
+    unfolding written writeChunks
+    two-written = rw (first n 16383 bytes v 0 (v .bytes)) (second n 16383 bytes v (writeChunk n 16383 bytes 0 u .bytes))
+
+    two-holes : holes n 16383 3 u ≡ 2
+    unfolding holes missing chunk find
+    two-holes = refl
+
+    writes-two : write n 16383 bytes u ≡ becomes 3 (wrote n 16383 bytes r u)
+    writes-two = writes n r u its-row (s .file) 16383 bytes (λ e. omega arith) (omega (arith, limit)) (omega (arith, two-holes, two-left))
+
+    p1-here : P1 n r u bytes
+    p1-here =
+        let e : endOf 16383 bytes r ≡ 16386 = omega (arith, s .empty) in
+        rw writes-two (
+          refl,
+          ap (λ (w : Volume). w .chunks) two-written,
+          sized-here u (written n 16383 bytes u) n (endOf 16383 bytes r) (kept-written n 16383 bytes u .nodes) r its-row ∙ ap (λ (k : ℕ). some (sized k r)) e,
+        )
+
+pub p1 : (n : ℕ) (r : NodeRecord) (v : Volume) (bs : List ℕ) → Start n r v → length bs ≡ 3 → P1 n r v bs
+p1 n r v bs s h = subst (λ w. P1 n r w bs) (shaped v 0 [] (start-shaped n r v s)) (three (P1 n r (u n r v s)) (p1-here n r v s) bs h)
