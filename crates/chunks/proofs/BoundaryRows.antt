@@ -8,8 +8,8 @@ use Prim.Native.Nat.{ℕ, zero, suc, _+_, _-_, _*_, _/_, _%_, _^_, _≤_, _<_, m
 use native.Mathlib.Omega.{arith}
 use lib.Dec.{eqb, ltb}
 use lib.ListN.{length, take, length-take}
-use borrow.Author.Tests.{eq-eqb, ne-eqb, le-ltb}
-use Rattle.words.specs.Bytes.{over}
+use borrow.Author.Tests.{eq-eqb, ne-eqb, lt-ltb, le-ltb}
+use Rattle.words.specs.Bytes.{over, zeros}
 use Rattle.words.specs.Rule.{pick, both, bit, times, count}
 use Rattle.words.specs.Table.{find, lead, leadOf, insertAt}
 use Rattle.words.proofs.Rules.{pick-true, pick-false}
@@ -22,18 +22,19 @@ use Rattle.types.specs.declared.NodeRecord.{NodeRecord}
 use Rattle.volume.specs.declared.ChunkRow.{ChunkRow}
 use Rattle.volume.specs.Volume.{Volume}
 use Rattle.volume.specs.Search.{pairBefore}
-use Rattle.volume.specs.Sound.{node}
+use Rattle.volume.specs.Sound.{node, roundUp}
 use Rattle.volume.specs.Steps.{Step, stays, becomes, withNode}
 use Rattle.allocator.specs.Allocator.{free, allocate}
 use Rattle.allocator.proofs.Accounts.{due-none}
 use Rattle.chunks.proofs.Changed.{node-is}
 use Rattle.tables.specs.Tables.{sized}
 use Rattle.chunks.specs.Content.{chunk}
-use Rattle.chunks.specs.Store.{room, missing, writeChunks, writeChunk, put, putFor, ensured, ensuredFor, taken}
+use Rattle.chunks.specs.Store.{only, goes, released, cutFrom, room, missing, writeChunks, writeChunk, put, putFor, ensured, ensuredFor, taken}
 use Rattle.chunks.specs.Write.{holes, written, write, writeFor}
 use Rattle.chunks.proofs.WriteKept.{endOf, wrote}
 use Rattle.chunks.proofs.SizeSet.{sized-here}
 use Rattle.chunks.proofs.KeptFields.{kept-written}
+use Rattle.chunks.specs.Resize.{cramped, tailZeroed, shrunk, resizeFor, resize}
 use Rattle.chunks.specs.Boundary.{Start, row, P1, P2, P3, P4, P5, P6, P7}
 
 pub p4 : (n : ℕ) (r : NodeRecord) (v : Volume) → Start n r v → P4 n v
@@ -141,6 +142,18 @@ module _ (n : ℕ) (r : NodeRecord) (v : Volume) (there : node n v ≡ some r) (
       let i : r .node ≡ n = node-is n v r there in
       rw (there, i) (sym (pick-false _ _ _ _ not-directory (pick-false _ _ _ _ (ne-eqb _ _ h) (pick-false _ _ _ _ (le-ltb _ _ l) (pick-false _ _ _ _ (le-ltb _ _ e) refl)))))
 
+  grows : (z : ℕ) → z ≤ fileLimit (r .limit) → r .size ≤ z → resize n z v ≡ becomes 0 (withNode n (sized z) v)
+  unfolding resize resizeFor
+  grows z l h =
+      let i : r .node ≡ n = node-is n v r there in
+      rw (there, i) (sym (pick-false _ _ _ _ not-directory (pick-false _ _ _ _ (le-ltb _ _ l) (pick-false _ _ _ _ (le-ltb _ _ h) refl))))
+
+  shrinks : (z : ℕ) → z ≤ fileLimit (r .limit) → z < r .size → cramped n z v ≡ false → resize n z v ≡ becomes 0 (withNode n (sized z) (shrunk n z v))
+  unfolding resize resizeFor
+  shrinks z l h e =
+      let i : r .node ≡ n = node-is n v r there in
+      rw (there, i) (sym (pick-false _ _ _ _ not-directory (pick-false _ _ _ _ (le-ltb _ _ l) (pick-true _ _ _ _ (lt-ltb _ _ h) (pick-false _ _ _ _ e refl)))))
+
 -- three bytes
 three : (P : List ℕ → Type 0) → ((a b c : ℕ) → P (a ∷ b ∷ c ∷ [])) → (bs : List ℕ) → length bs ≡ 3 → P bs
 three P f [] h = absurd (omega arith)
@@ -188,5 +201,49 @@ module _ (n : ℕ) (r : NodeRecord) (v : Volume) (s : Start n r v) where
           sized-here u (written n 16383 bytes u) n (endOf 16383 bytes r) (kept-written n 16383 bytes u .nodes) r its-row ∙ ap (λ (k : ℕ). some (sized k r)) e,
         )
 
+  -- ---- one byte at the end of all sizes
+
+  module _ (b : ℕ) where
+    one-written : written n 1099511627775 (b ∷ []) u ≡ shape v 16384 (row n 67108863 0 ∷ []) (written n 1099511627775 (b ∷ []) u .bytes)
+    unfolding written writeChunks
+    one-written = first n 1099511627775 (b ∷ []) v 67108863 (v .bytes)
+
+    one-hole : holes n 1099511627775 1 u ≡ 1
+    unfolding holes missing chunk find
+    one-hole = refl
+
+    p6-here : P6 n u b
+    p6-here =
+        rw (writes n r u its-row (s .file) 1099511627775 (b ∷ []) (λ e. omega arith) (omega (arith, limit)) (omega (arith, one-hole, two-left)))
+        (refl, ap (λ (w : Volume). w .chunks) one-written)
+
+  -- ---- grown, then cut
+
+  abbrev grown : Volume
+  grown = withNode n (sized 40000) u
+
+  grown-row : node n grown ≡ some (sized 40000 r)
+  grown-row = sized-here u u n 40000 refl r its-row
+
+  grown-room : cramped n 20000 grown ≡ false
+  unfolding cramped both only roundUp pick chunk find room
+  grown-room = le-ltb (room u) 1 (omega (arith, two-left))
+
+  one-left : shrunk n 20000 grown .chunks ≡ row n 1 0 ∷ []
+  unfolding shrunk tailZeroed cutFrom released only roundUp pick
+  one-left = ap (λ (w : Volume). w .chunks) (first n 20000 (zeros 12768) grown 1 (v .bytes))
+
+  p7-here : P7 n u
+  p7-here =
+      let e : resize n 40000 u ≡ becomes 0 grown = grows n r u its-row (s .file) 40000 (omega (arith, limit)) (omega (arith, s .empty)) in
+      let k : resize n 20000 grown ≡ becomes 0 (withNode n (sized 20000) (shrunk n 20000 grown)) = shrinks n (sized 40000 r) grown grown-row (s .file) 20000 (omega (arith, limit)) (omega arith) grown-room in
+      rw (e, k) (refl, one-left)
+
 pub p1 : (n : ℕ) (r : NodeRecord) (v : Volume) (bs : List ℕ) → Start n r v → length bs ≡ 3 → P1 n r v bs
 p1 n r v bs s h = subst (λ w. P1 n r w bs) (shaped v 0 [] (start-shaped n r v s)) (three (P1 n r (u n r v s)) (p1-here n r v s) bs h)
+
+pub p6 : (n : ℕ) (r : NodeRecord) (v : Volume) (b : ℕ) → Start n r v → P6 n v b
+p6 n r v b s = subst (λ w. P6 n w b) (shaped v 0 [] (start-shaped n r v s)) (p6-here n r v s b)
+
+pub p7 : (n : ℕ) (r : NodeRecord) (v : Volume) → Start n r v → P7 n v
+p7 n r v s = subst (λ w. P7 n w) (shaped v 0 [] (start-shaped n r v s)) (p7-here n r v s)
