@@ -8,11 +8,13 @@ use Prim.Native.Nat.{ℕ, zero, suc, _+_, _-_, _*_, _/_, _%_, _^_, _≤_, _<_, m
 use native.Mathlib.Omega.{arith}
 use lib.Dec.{eqb, ltb}
 use lib.ListN.{length, take, length-take}
+use lib.Seq.{take-suc-set}
 use borrow.Author.Tests.{eq-eqb, ne-eqb, lt-ltb, le-ltb}
-use Rattle.words.specs.Bytes.{over, zeros}
+use Rattle.words.specs.Bytes.{part, over, zeros}
 use Rattle.words.specs.Rule.{pick, both, bit, times, count}
 use Rattle.words.specs.Table.{find, lead, leadOf, insertAt}
 use Rattle.words.proofs.Rules.{pick-true, pick-false}
+use Rattle.types.specs.Outcomes.{done}
 use Rattle.types.specs.Nodes.{kindByte, fileLimit}
 use Rattle.types.specs.declared.Answer.the-variants.{Done, Refused}
 use Rattle.types.specs.declared.Error.the-variants.{FileTooLarge}
@@ -20,20 +22,23 @@ use Rattle.types.specs.declared.FileType.the-variants.{RegularFile}
 use Rattle.types.specs.declared.Limit.the-variants.{Unlimited}
 use Rattle.types.specs.declared.NodeRecord.{NodeRecord}
 use Rattle.volume.specs.declared.ChunkRow.{ChunkRow}
-use Rattle.volume.specs.Volume.{Volume}
+use Rattle.volume.specs.Volume.{Volume, withAllocator, withChunks, withBytes}
+use Rattle.volume.specs.Framed.{Fits}
 use Rattle.volume.specs.Search.{pairBefore}
-use Rattle.volume.specs.Sound.{node, roundUp}
+use Rattle.volume.specs.Sound.{node, roundUp, Good}
 use Rattle.volume.specs.Steps.{Step, stays, becomes, withNode}
-use Rattle.allocator.specs.Allocator.{free, allocate}
+use Rattle.allocator.specs.Allocator.{free, allocate, release}
 use Rattle.allocator.proofs.Accounts.{due-none}
+use Rattle.chunks.proofs.FoundRows.{over-at}
 use Rattle.chunks.proofs.Changed.{node-is}
 use Rattle.tables.specs.Tables.{sized}
-use Rattle.chunks.specs.Content.{chunk}
+use Rattle.chunks.specs.Content.{chunk, byteAt, bytesFrom}
 use Rattle.chunks.specs.Store.{only, goes, released, cutFrom, room, missing, writeChunks, writeChunk, put, putFor, ensured, ensuredFor, taken}
 use Rattle.chunks.specs.Write.{holes, written, write, writeFor}
-use Rattle.chunks.proofs.WriteKept.{endOf, wrote}
+use Rattle.chunks.proofs.WriteKept.{endOf, wrote, write-kept}
 use Rattle.chunks.proofs.SizeSet.{sized-here}
 use Rattle.chunks.proofs.KeptFields.{kept-written}
+use Rattle.chunks.specs.Read.{readCount, readFrom, read}
 use Rattle.chunks.specs.Resize.{cramped, tailZeroed, shrunk, resizeFor, resize}
 use Rattle.chunks.specs.Boundary.{Start, row, P1, P2, P3, P4, P5, P6, P7}
 
@@ -201,6 +206,80 @@ module _ (n : ℕ) (r : NodeRecord) (v : Volume) (s : Start n r v) where
           sized-here u (written n 16383 bytes u) n (endOf 16383 bytes r) (kept-written n 16383 bytes u .nodes) r its-row ∙ ap (λ (k : ℕ). some (sized k r)) e,
         )
 
+  -- ---- the two chunks cut to one
+
+  module _ (area : List ℕ) where
+    abbrev full : Volume
+    full = withNode n (sized 16386) (shape v 32768 (row n 0 0 ∷ row n 1 16384 ∷ []) area)
+
+    full-row : node n full ≡ some (sized 16386 r)
+    full-row = sized-here u (shape v 32768 (row n 0 0 ∷ row n 1 16384 ∷ []) area) n 16386 refl r its-row
+
+    full-frees : cramped n 16383 full ≡ false
+    unfolding cramped both only goes roundUp pick
+    full-frees = rw (eq-eqb n n refl) refl
+
+    -- one row, its pointer free, and a zero where the file now ends
+    abbrev less : Volume
+    less = withBytes (over area 16383 (0 ∷ [])) (withChunks (row n 0 0 ∷ []) (withAllocator (release 16384 (full .allocator)) full))
+
+    cut : shrunk n 16383 full ≡ less
+    unfolding shrunk tailZeroed cutFrom released only goes roundUp pick both writeChunk put putFor ensured ensuredFor chunk find part zeros release
+    cut = rw (eq-eqb n n refl, eq-eqb n n refl, eq-eqb n n refl) refl
+
+    cuts : resize n 16383 full ≡ becomes 0 (withNode n (sized 16383) less)
+    cuts =
+        shrinks n (sized 16386 r) full full-row (s .file) 16383 (omega (arith, limit)) (omega arith) full-frees
+        ∙ ap (λ (w : Volume). becomes 0 (withNode n (sized 16383) w)) cut
+
+    word-free : free (less .allocator) ≡ 16384 ∷ []
+    unfolding free release
+    word-free = take-suc-set (v .allocator .words) 0 16384 (omega (arith, s .fits .words, s .room))
+
+    -- grown again
+    abbrev again : Volume
+    again = withNode n (sized 16386) (withNode n (sized 16383) less)
+
+    less-row : node n (withNode n (sized 16383) less) ≡ some (sized 16383 r)
+    less-row = sized-here full less n 16383 refl (sized 16386 r) full-row
+
+    again-row : node n again ≡ some (sized 16386 r)
+    again-row = sized-here (withNode n (sized 16383) less) (withNode n (sized 16383) less) n 16386 refl (sized 16383 r) less-row
+
+    grows-again : resize n 16386 (withNode n (sized 16383) less) ≡ becomes 0 again
+    grows-again = grows n (sized 16383 r) (withNode n (sized 16383) less) less-row (s .file) 16386 (omega (arith, limit)) (omega arith)
+
+    zeros-again : 16383 ≤ length area → bytesFrom again n 16383 3 ≡ 0 ∷ 0 ∷ 0 ∷ []
+    unfolding bytesFrom byteAt chunk find pick both release
+    zeros-again h = rw (eq-eqb n n refl, over-at area 16383 (0 ∷ []) 0 h (omega arith)) refl
+
+    reads : 16383 ≤ length area → read n 16383 again (1 ∷ 1 ∷ 1 ∷ []) ≡ done 3 (0 ∷ 0 ∷ 0 ∷ [])
+    unfolding read readFrom readCount pick over release
+    reads h = rw (again-row, s .file, number n r v s, zeros-again h) refl
+
+  module _ (a b c : ℕ) where
+    abbrev filled : List ℕ
+    filled = written n 16383 (bytes a b c) u .bytes
+
+    its-full : write n 16383 (bytes a b c) u .after ≡ full filled
+    its-full =
+        let e : endOf 16383 (bytes a b c) r ≡ 16386 = omega (arith, s .empty) in
+        ap (λ (t : Step). t .after) (writes-two a b c)
+        ∙ ap (λ (w : Volume). withNode n (sized (endOf 16383 (bytes a b c) r)) w) (two-written a b c)
+        ∙ ap (λ (k : ℕ). withNode n (sized k) (shape v 32768 (row n 0 0 ∷ row n 1 16384 ∷ []) filled)) e
+
+    long : 16383 ≤ length filled
+    long =
+        let e = sym (shaped v 0 [] (start-shaped n r v s)) in
+        let k : Fits (full filled) = subst Fits its-full (write-kept n 16383 (bytes a b c) u (subst Fits e (s .fits)) (subst Good e (s .good)) .0) in
+        omega (arith, k .placed .long)
+
+    p2-here : P2 n u (bytes a b c)
+    p2-here = rw (its-full, cuts filled) (refl, word-free filled)
+
+    p3-here : P3 n u (bytes a b c)
+    p3-here = rw (its-full, cuts filled, grows-again filled) (reads filled long)
+
   -- ---- one byte at the end of all sizes
 
   module _ (b : ℕ) where
@@ -241,6 +320,12 @@ module _ (n : ℕ) (r : NodeRecord) (v : Volume) (s : Start n r v) where
 
 pub p1 : (n : ℕ) (r : NodeRecord) (v : Volume) (bs : List ℕ) → Start n r v → length bs ≡ 3 → P1 n r v bs
 p1 n r v bs s h = subst (λ w. P1 n r w bs) (shaped v 0 [] (start-shaped n r v s)) (three (P1 n r (u n r v s)) (p1-here n r v s) bs h)
+
+pub p2 : (n : ℕ) (r : NodeRecord) (v : Volume) (bs : List ℕ) → Start n r v → length bs ≡ 3 → P2 n v bs
+p2 n r v bs s h = subst (λ w. P2 n w bs) (shaped v 0 [] (start-shaped n r v s)) (three (P2 n (u n r v s)) (p2-here n r v s) bs h)
+
+pub p3 : (n : ℕ) (r : NodeRecord) (v : Volume) (bs : List ℕ) → Start n r v → length bs ≡ 3 → P3 n v bs
+p3 n r v bs s h = subst (λ w. P3 n w bs) (shaped v 0 [] (start-shaped n r v s)) (three (P3 n (u n r v s)) (p3-here n r v s) bs h)
 
 pub p6 : (n : ℕ) (r : NodeRecord) (v : Volume) (b : ℕ) → Start n r v → P6 n v b
 p6 n r v b s = subst (λ w. P6 n w b) (shaped v 0 [] (start-shaped n r v s)) (p6-here n r v s b)
