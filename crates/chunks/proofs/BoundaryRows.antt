@@ -1,12 +1,12 @@
 -- The scope's boundary rows P1 to P7 hold of the calls' definitions, in every volume that they can start from.
 -- Assumes nothing.
 use mathlib.Core.Path.{_≡_, refl, sym, ap, _∙_, subst}
-use mathlib.Core.Bool.{Bool, true, false}
+use mathlib.Core.Bool.{true, false}
 use mathlib.Core.List.{List, [], _∷_, map}
-use mathlib.Core.Option.{Option, none, some}
-use Prim.Native.Nat.{ℕ, zero, suc, _+_, _-_, _*_, _/_, _%_, _^_, _≤_, _<_, max}
+use mathlib.Core.Option.{none, some}
+use Prim.Native.Nat.{ℕ, zero, _+_, _-_, _≤_, _<_}
 use native.Mathlib.Omega.{arith}
-use lib.Dec.{eqb, ltb}
+use lib.Dec.{eqb}
 use lib.ListN.{length, take, length-take}
 use lib.Seq.{take-suc-set}
 use borrow.Author.Tests.{eq-eqb, ne-eqb, lt-ltb, le-ltb}
@@ -14,19 +14,17 @@ use Rattle.words.specs.Bytes.{part, over, zeros}
 use Rattle.words.specs.Rule.{pick, both, bit, times, count}
 use Rattle.words.specs.Table.{find, lead, leadOf, insertAt}
 use Rattle.words.proofs.Rules.{pick-true, pick-false}
+use Rattle.types.specs.Sizes.{mostSize}
 use Rattle.types.specs.Outcomes.{done}
 use Rattle.types.specs.Nodes.{kindByte, fileLimit}
-use Rattle.types.specs.declared.Answer.the-variants.{Done, Refused}
-use Rattle.types.specs.declared.Error.the-variants.{FileTooLarge}
 use Rattle.types.specs.declared.FileType.the-variants.{RegularFile}
-use Rattle.types.specs.declared.Limit.the-variants.{Unlimited}
 use Rattle.types.specs.declared.NodeRecord.{NodeRecord}
 use Rattle.volume.specs.declared.ChunkRow.{ChunkRow}
 use Rattle.volume.specs.Volume.{Volume, withAllocator, withChunks, withBytes}
 use Rattle.volume.specs.Framed.{Fits}
 use Rattle.volume.specs.Search.{pairBefore}
 use Rattle.volume.specs.Sound.{node, roundUp, Good}
-use Rattle.volume.specs.Steps.{Step, stays, becomes, withNode}
+use Rattle.volume.specs.Steps.{Step, becomes, withNode}
 use Rattle.allocator.specs.Allocator.{free, allocate, release}
 use Rattle.allocator.proofs.Accounts.{due-none}
 use Rattle.chunks.proofs.FoundRows.{over-at}
@@ -41,14 +39,6 @@ use Rattle.chunks.proofs.KeptFields.{kept-written}
 use Rattle.chunks.specs.Read.{readCount, readFrom, read}
 use Rattle.chunks.specs.Resize.{cramped, tailZeroed, shrunk, resizeFor, resize}
 use Rattle.chunks.specs.Boundary.{Start, row, P1, P2, P3, P4, P5, P6, P7}
-
-pub p4 : (n : ℕ) (r : NodeRecord) (v : Volume) → Start n r v → P4 n v
-unfolding write writeFor pick
-p4 n r v s = rw (s .there, s .file) (refl, refl)
-
-pub p5 : (n : ℕ) (r : NodeRecord) (v : Volume) (b : ℕ) → Start n r v → P5 n v b
-unfolding write writeFor pick
-p5 n r v b s = rw (s .there, s .file, s .unlimited) (refl, refl)
 
 -- ---- the volume to start from, as its parts
 
@@ -66,27 +56,7 @@ shape v next cs bytes = record {
   bytes = bytes;
 }
 
--- of which so much is known
-record Shaped (v : Volume) (next : ℕ) (cs : List ChunkRow) : Type 0 where
-  pub size : v .allocator .chunkSize ≡ 16384
-  pub free : v .allocator .freeCount ≡ 0
-  pub unused : v .allocator .nextPtr ≡ next
-  pub rows : v .chunks ≡ cs
-
-shaped : (v : Volume) (next : ℕ) (cs : List ChunkRow) → Shaped v next cs → shape v next cs (v .bytes) ≡ v
-shaped v next cs s = sym (λ i. record {
-  nodeRoom = v .nodeRoom;
-  entryRoom = v .entryRoom;
-  chunkRoom = v .chunkRoom;
-  nextNode = v .nextNode;
-  allocator = record { mark = v .allocator .mark; chunkSize = s .size i; freeCount = s .free i; nextPtr = s .unused i; unread = v .allocator .unread; words = v .allocator .words };
-  nodes = v .nodes;
-  entries = v .entries;
-  chunks = s .rows i;
-  bytes = v .bytes;
-})
-
--- while word 3 is 0 no chunk is in use, and none is free
+-- a list in which nothing stands
 none-counted : (l : List ℕ) → ((p : ℕ) → count p l ≡ 0) → l ≡ []
 unfolding count times bit
 none-counted [] h = refl
@@ -96,6 +66,7 @@ none-counted (q ∷ l) h =
     absurd (omega (arith, k))
 
 module _ (n : ℕ) (r : NodeRecord) (v : Volume) (s : Start n r v) where
+  -- while word 3 is 0 no pointer is in use, and none is free
   none-used : (p : ℕ) → count p (map (λ c. c .pointer) (v .chunks)) + count p (free (v .allocator)) ≡ 0
   none-used p = s .good .pointers p ∙ due-none (v .allocator .chunkSize) (v .allocator .nextPtr) p (omega (arith, s .unused))
 
@@ -113,8 +84,18 @@ module _ (n : ℕ) (r : NodeRecord) (v : Volume) (s : Start n r v) where
       let k : length (take (v .allocator .freeCount) (v .allocator .words)) ≡ 0 = ap length e in
       omega (arith, k, length-take (v .allocator .freeCount) (v .allocator .words), s .fits .words, s .fits .free)
 
-  start-shaped : Shaped v 0 []
-  start-shaped = record { size = s .size; free = none-free; unused = s .unused; rows = no-rows }
+  start-shape : shape v 0 [] (v .bytes) ≡ v
+  start-shape = sym (λ i. record {
+    nodeRoom = v .nodeRoom;
+    entryRoom = v .entryRoom;
+    chunkRoom = v .chunkRoom;
+    nextNode = v .nextNode;
+    allocator = record { mark = v .allocator .mark; chunkSize = s .size i; freeCount = none-free i; nextPtr = s .unused i; unread = v .allocator .unread; words = v .allocator .words };
+    nodes = v .nodes;
+    entries = v .entries;
+    chunks = no-rows i;
+    bytes = v .bytes;
+  })
 
   area : 65536 ≤ length (v .bytes)
   area = omega (arith, s .fits .placed .long)
@@ -159,7 +140,7 @@ module _ (n : ℕ) (r : NodeRecord) (v : Volume) (there : node n v ≡ some r) (
       let i : r .node ≡ n = node-is n v r there in
       rw (there, i) (sym (pick-false _ _ _ _ not-directory (pick-false _ _ _ _ (le-ltb _ _ l) (pick-true _ _ _ _ (lt-ltb _ _ h) (pick-false _ _ _ _ e refl)))))
 
--- three bytes
+-- what holds of any three bytes
 three : (P : List ℕ → Type 0) → ((a b c : ℕ) → P (a ∷ b ∷ c ∷ [])) → (bs : List ℕ) → length bs ≡ 3 → P bs
 three P f [] h = absurd (omega arith)
 three P f (a ∷ []) h = absurd (omega arith)
@@ -179,8 +160,10 @@ module _ (n : ℕ) (r : NodeRecord) (v : Volume) (s : Start n r v) where
   unfolding room
   two-left = omega (arith, s .room, area n r v s)
 
-  limit : fileLimit (r .limit) ≡ 1099511627776
+  limit : fileLimit (r .limit) ≡ mostSize
   limit = rw (s .unlimited) refl
+
+  -- ---- three bytes, the first one the last of a chunk
 
   module _ (a b c : ℕ) where
     abbrev bytes : List ℕ
@@ -219,7 +202,7 @@ module _ (n : ℕ) (r : NodeRecord) (v : Volume) (s : Start n r v) where
     unfolding cramped both only goes roundUp pick
     full-frees = rw (eq-eqb n n refl) refl
 
-    -- one row, its pointer free, and a zero where the file now ends
+    -- one row left, the other one's pointer free, and a zero where the file now ends
     abbrev less : Volume
     less = withBytes (over area 16383 (0 ∷ [])) (withChunks (row n 0 0 ∷ []) (withAllocator (release 16384 (full .allocator)) full))
 
@@ -270,7 +253,7 @@ module _ (n : ℕ) (r : NodeRecord) (v : Volume) (s : Start n r v) where
 
     long : 16383 ≤ length filled
     long =
-        let e = sym (shaped v 0 [] (start-shaped n r v s)) in
+        let e = sym (start-shape n r v s) in
         let k : Fits (full filled) = subst Fits its-full (write-kept n 16383 (bytes a b c) u (subst Fits e (s .fits)) (subst Good e (s .good)) .0) in
         omega (arith, k .placed .long)
 
@@ -318,17 +301,27 @@ module _ (n : ℕ) (r : NodeRecord) (v : Volume) (s : Start n r v) where
       let k : resize n 20000 grown ≡ becomes 0 (withNode n (sized 20000) (shrunk n 20000 grown)) = shrinks n (sized 40000 r) grown grown-row (s .file) 20000 (omega (arith, limit)) (omega arith) grown-room in
       rw (e, k) (refl, one-left)
 
+-- ---- the rows
+
 pub p1 : (n : ℕ) (r : NodeRecord) (v : Volume) (bs : List ℕ) → Start n r v → length bs ≡ 3 → P1 n r v bs
-p1 n r v bs s h = subst (λ w. P1 n r w bs) (shaped v 0 [] (start-shaped n r v s)) (three (P1 n r (u n r v s)) (p1-here n r v s) bs h)
+p1 n r v bs s h = subst (λ w. P1 n r w bs) (start-shape n r v s) (three (P1 n r (u n r v s)) (p1-here n r v s) bs h)
 
 pub p2 : (n : ℕ) (r : NodeRecord) (v : Volume) (bs : List ℕ) → Start n r v → length bs ≡ 3 → P2 n v bs
-p2 n r v bs s h = subst (λ w. P2 n w bs) (shaped v 0 [] (start-shaped n r v s)) (three (P2 n (u n r v s)) (p2-here n r v s) bs h)
+p2 n r v bs s h = subst (λ w. P2 n w bs) (start-shape n r v s) (three (P2 n (u n r v s)) (p2-here n r v s) bs h)
 
 pub p3 : (n : ℕ) (r : NodeRecord) (v : Volume) (bs : List ℕ) → Start n r v → length bs ≡ 3 → P3 n v bs
-p3 n r v bs s h = subst (λ w. P3 n w bs) (shaped v 0 [] (start-shaped n r v s)) (three (P3 n (u n r v s)) (p3-here n r v s) bs h)
+p3 n r v bs s h = subst (λ w. P3 n w bs) (start-shape n r v s) (three (P3 n (u n r v s)) (p3-here n r v s) bs h)
+
+pub p4 : (n : ℕ) (r : NodeRecord) (v : Volume) → Start n r v → P4 n v
+unfolding write writeFor pick
+p4 n r v s = rw (s .there, s .file) (refl, refl)
+
+pub p5 : (n : ℕ) (r : NodeRecord) (v : Volume) (b : ℕ) → Start n r v → P5 n v b
+unfolding write writeFor pick
+p5 n r v b s = rw (s .there, s .file, s .unlimited) (refl, refl)
 
 pub p6 : (n : ℕ) (r : NodeRecord) (v : Volume) (b : ℕ) → Start n r v → P6 n v b
-p6 n r v b s = subst (λ w. P6 n w b) (shaped v 0 [] (start-shaped n r v s)) (p6-here n r v s b)
+p6 n r v b s = subst (λ w. P6 n w b) (start-shape n r v s) (p6-here n r v s b)
 
 pub p7 : (n : ℕ) (r : NodeRecord) (v : Volume) → Start n r v → P7 n v
-p7 n r v s = subst (λ w. P7 n w) (shaped v 0 [] (start-shaped n r v s)) (p7-here n r v s)
+p7 n r v s = subst (λ w. P7 n w) (start-shape n r v s) (p7-here n r v s)
