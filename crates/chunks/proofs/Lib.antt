@@ -22,3 +22,4 @@ pub mod SizeSet
 pub mod WriteKept
 pub mod PosixWrite
 pub mod HoleCount
+pub mod BoundaryRows
