@@ -4,3 +4,4 @@ pub mod Limits
 pub mod Store
 pub mod Write
 pub mod Resize
+pub mod Stored
