@@ -4,3 +4,5 @@ pub mod Inside
 pub mod Pieces
 pub mod Given
 pub mod Stored
+pub mod Fills
+pub mod Puts

@@ -1,6 +1,5 @@
 -- A good volume's chunks are stored well.
 -- Assumes nothing.
-use Prim.Native.Nat.{ℕ, _<_}
 use native.Mathlib.Omega.{arith}
 use Rattle.allocator.proofs.Sized.{accepted-bounds}
 use Rattle.volume.specs.Volume.{Volume}

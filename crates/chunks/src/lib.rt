@@ -1,4 +1,6 @@
 // Files of a sound volume: their bytes read, written, cut and extended, chunk by chunk.
 mod reading;
+mod rows;
+mod writing;
 
 pub use reading::read;
