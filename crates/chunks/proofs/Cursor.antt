@@ -57,11 +57,11 @@ module _ {R : Type 0} (f g : R → Bool) (d : R) (wider : (r : R) → f r ≡ tr
 
 -- ---- a test that fails
 
-false-says : {P : Type 0} {t : Bool} → Says P t → (P → ⊥) → t ≡ false
+pub false-says : {P : Type 0} {t : Bool} → Says P t → (P → ⊥) → t ≡ false
 false-says (holds p) h = absurd (h p)
 false-says (fails p) h = refl
 
-says-false : {P : Type 0} {t : Bool} → Says P t → t ≡ false → P → ⊥
+pub says-false : {P : Type 0} {t : Bool} → Says P t → t ≡ false → P → ⊥
 says-false (holds p) e q = true≢false e
 says-false (fails p) e q = p q
 
@@ -72,10 +72,10 @@ says-itself false = fails (λ e. true≢false (sym e))
 -- ---- keys (n, k) and (n, k + 1)
 
 module _ (n k : ℕ) where
-  says-chunk : (c : ChunkRow) → Says ((c .node ≡ n) × (c .index ≡ k)) (isChunk n k c)
+  pub says-chunk : (c : ChunkRow) → Says ((c .node ≡ n) × (c .index ≡ k)) (isChunk n k c)
   says-chunk c = says-both (says-eqb (c .node) n) (says-eqb (c .index) k)
 
-  says-under : (c : ChunkRow) (m : ℕ) → Says (PairBefore (c .node) (c .index) n m) (chunkUnder n m c)
+  pub says-under : (c : ChunkRow) (m : ℕ) → Says (PairBefore (c .node) (c .index) n m) (chunkUnder n m c)
   says-under c m = says-pair (c .node) (c .index) n m
 
   further : (a b : ℕ) → PairBefore a b n k → PairBefore a b n (k + 1)
@@ -100,7 +100,7 @@ module _ (n k : ℕ) where
   apart a b p q (inl h) = omega arith
   apart a b p q (inr h) = omega (arith, h .1)
 
-  not-under : (c : ChunkRow) → chunkUnder n k c ≡ true → isChunk n k c ≡ false
+  pub not-under : (c : ChunkRow) → chunkUnder n k c ≡ true → isChunk n k c ≡ false
   not-under c e = false-says (says-chunk c) (λ z. apart (c .node) (c .index) (z .0) (z .1) (says-true (says-under c k) e))
 
   here-under : (c : ChunkRow) → isChunk n k c ≡ true → chunkUnder n (k + 1) c ≡ true

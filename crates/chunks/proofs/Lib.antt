@@ -6,3 +6,13 @@ pub mod Given
 pub mod Stored
 pub mod Fills
 pub mod Puts
+pub mod FoundRows
+pub mod Allocated
+pub mod RowPlaces
+pub mod TakenChunk
+pub mod EnsuredChunk
+pub mod KeptFields
+pub mod PutPiece
+pub mod WrittenChunks
+pub mod WrittenBytes
+pub mod HoleCount

@@ -1,0 +1,65 @@
+-- Indexes without a row, counted by two places in the chunk table: c indexes less the rows between the first and the last of them.
+-- Assumes nothing.
+use mathlib.Core.Path.{_≡_, refl, ap, _∙_}
+use mathlib.Core.Bool.{Bool, true, false}
+use mathlib.Core.List.{List}
+use mathlib.Core.Option.{Option, none, some}
+use Prim.Native.Nat.{ℕ, zero, suc, _+_, _-_, _≤_}
+use native.Mathlib.Nat.{add-zero}
+use native.Mathlib.Omega.{arith}
+use lib.Dec.{ltb}
+use lib.ListN.{length}
+use Rattle.words.specs.Rule.{both}
+use Rattle.words.specs.Table.{Asc, lead}
+use Rattle.volume.specs.declared.ChunkRow.{ChunkRow}
+use Rattle.volume.specs.Volume.{Volume}
+use Rattle.volume.specs.Search.{chunkUnder}
+use Rattle.volume.specs.Sound.{chunkBefore}
+use Rattle.tables.specs.Tables.{chunkAt, isChunk}
+use Rattle.chunks.specs.Content.{chunk}
+use Rattle.chunks.specs.Store.{hole, missing}
+use Rattle.chunks.specs.Write.{firstOf, numOf, holes}
+use Rattle.chunks.proofs.Cursor.{row-yes, row-no}
+
+hole-most : (o : Option ChunkRow) → hole o ≤ 1
+hole-most none = omega arith
+hole-most (some c) = omega arith
+
+pub missing-most : (n c k : ℕ) (cs : List ChunkRow) → missing n c k cs ≤ c
+unfolding missing
+missing-most n zero k cs = omega arith
+missing-most n (suc c) k cs = omega (arith, missing-most n c (suc k) cs, hole-most (chunk n k cs))
+
+module _ (n : ℕ) (cs : List ChunkRow) (asc : Asc chunkBefore cs) where
+  -- one index: a hole, or one row
+  hole-lead : (k : ℕ) → hole (chunk n k cs) + lead (chunkUnder n (k + 1)) cs ≡ 1 + lead (chunkUnder n k) cs
+  hole-lead k = go (both (ltb p (length cs)) (isChunk n k (chunkAt cs p))) refl
+    where
+      p : ℕ
+      p = lead (chunkUnder n k) cs
+
+      go : (b : Bool) → both (ltb p (length cs)) (isChunk n k (chunkAt cs p)) ≡ b → hole (chunk n k cs) + lead (chunkUnder n (k + 1)) cs ≡ 1 + lead (chunkUnder n k) cs
+      go true e = let r = row-yes n k cs asc refl e in rw (r .1 .0) (omega (arith, r .1 .1))
+      go false e = let r = row-no n k cs asc refl e in rw (r .0) (omega (arith, r .1))
+
+  missing-sum : (c k : ℕ) → missing n c k cs + lead (chunkUnder n (k + c)) cs ≡ c + lead (chunkUnder n k) cs
+  unfolding missing
+  missing-sum zero k = rw add-zero
+  missing-sum (suc c) k =
+      let e : suc k + c ≡ k + suc c = omega arith in
+      let f : suc k ≡ k + 1 = omega arith in
+      let h : missing n c (suc k) cs + lead (chunkUnder n (k + suc c)) cs ≡ c + lead (chunkUnder n (k + 1)) cs = rw e at (missing-sum c (suc k)) ∙ ap (λ (x : ℕ). c + lead (chunkUnder n x) cs) f in
+      omega (arith, hole-lead k)
+
+  pub missing-lead : (c k : ℕ) → missing n c k cs ≡ c - (lead (chunkUnder n (k + c)) cs - lead (chunkUnder n k) cs)
+  missing-lead c k = omega (arith, missing-sum c k, missing-most n c k cs)
+
+  -- the rows between the two places are at most c, and the second place is not before the first
+  pub lead-span : (c k : ℕ) → (lead (chunkUnder n k) cs ≤ lead (chunkUnder n (k + c)) cs) × (lead (chunkUnder n (k + c)) cs ≤ lead (chunkUnder n k) cs + c)
+  lead-span c k = (omega (arith, missing-sum c k, missing-most n c k cs), omega (arith, missing-sum c k))
+
+-- the touched indexes without a row
+pub holes-lead : (n offset len : ℕ) (v : Volume) → Asc chunkBefore (v .chunks) → (first num : ℕ) → first ≡ firstOf (v .allocator .chunkSize) offset → num ≡ numOf (v .allocator .chunkSize) offset len
+    → holes n offset len v ≡ num - (lead (chunkUnder n (first + num)) (v .chunks) - lead (chunkUnder n first) (v .chunks))
+unfolding holes
+holes-lead n offset len v asc first num e f = rw (e, f) (missing-lead n (v .chunks) asc (numOf (v .allocator .chunkSize) offset len) (firstOf (v .allocator .chunkSize) offset))
