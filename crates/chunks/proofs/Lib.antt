@@ -3,6 +3,8 @@ pub mod Cursor
 pub mod Inside
 pub mod Pieces
 pub mod Given
+pub mod Changed
+pub mod Limited
 pub mod Stored
 pub mod Fills
 pub mod Puts

@@ -1,6 +1,8 @@
-// Files of a sound volume: their bytes read, written, cut and extended, chunk by chunk.
+// Files of a sound volume: their bytes read, written, cut and extended, chunk by chunk, and their limits.
+mod limits;
 mod reading;
 mod rows;
 mod writing;
 
+pub use limits::set_limit;
 pub use reading::read;

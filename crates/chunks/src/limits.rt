@@ -1,0 +1,34 @@
+// A file's size limit set, to a number or none.
+use tables::Found;
+use types::Answer;
+use types::Error;
+use types::Limit;
+use volume::Layout;
+ghost use mathlib.Core.Path.{_≡_};
+ghost use Rattle.volume.specs.Volume.{shown, laid};
+ghost use Rattle.volume.specs.Sound.{Good};
+ghost use Rattle.tables.specs.Tables.{Ready};
+ghost use Rattle.chunks.specs.Limits.{setLimit};
+
+pub fn set_limit(volume: &mut [u8], layout: Layout, node: u64, limit: Limit) -> Answer
+    requires { ⌜ Ready (now volume) layout × Good (shown (now volume)) ⌝ }
+    ensures { λ r. ⌜ (r ≡ setLimit node limit (shown (now (volume .entry))) .answer) × (now (volume .exit) ≡ laid (setLimit node limit (shown (now (volume .entry))) .after)) ⌝ }
+{
+    let found = tables::find_node(volume, layout, node);
+    let Found::At(i) = found else {
+        return Answer::Refused(Error::NoSuchEntry);
+    };
+    let row = tables::node_row(volume, layout, i);
+    let kind = row.kind;
+    if types::is_directory(kind) {
+        return Answer::Refused(Error::IsDirectory);
+    }
+    if types::MOST_SIZE < types::limit_word(limit) {
+        return Answer::Refused(Error::InvalidArgument);
+    }
+    if types::file_limit(limit) < row.size {
+        return Answer::Refused(Error::FileTooLarge);
+    }
+    tables::set_limit(volume, layout, i, limit);
+    Answer::Done(0)
+}
