@@ -1,1 +1,4 @@
 pub mod Stored
+pub mod Only
+pub mod Released
+pub mod Cutting
