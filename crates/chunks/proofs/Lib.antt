@@ -2,3 +2,4 @@ pub mod Stored
 pub mod Only
 pub mod Released
 pub mod Cutting
+pub mod Runs
