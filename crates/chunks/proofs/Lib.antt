@@ -18,3 +18,7 @@ pub mod PutPiece
 pub mod WrittenChunks
 pub mod WrittenBytes
 pub mod HoleCount
+pub mod Only
+pub mod Released
+pub mod Cutting
+pub mod Runs
