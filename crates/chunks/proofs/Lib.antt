@@ -1,5 +1,6 @@
 pub mod Stored
 pub mod Only
 pub mod Released
-pub mod Cutting
+pub mod Cut
 pub mod Runs
+pub mod Freeing

@@ -1,1 +1,2 @@
 // Files of a sound volume.
+mod cutting;
