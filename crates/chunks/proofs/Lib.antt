@@ -20,5 +20,6 @@ pub mod WrittenBytes
 pub mod HoleCount
 pub mod Only
 pub mod Released
-pub mod Cutting
+pub mod Cut
 pub mod Runs
+pub mod Freeing

@@ -1,4 +1,5 @@
 // Files of a sound volume: their bytes read, written, cut and extended, chunk by chunk, and their limits.
+mod cutting;
 mod limits;
 mod reading;
 mod rows;
