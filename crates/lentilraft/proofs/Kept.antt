@@ -3,16 +3,15 @@
 use mathlib.Core.Path.{_≡_, refl, sym, ap, _∙_}
 use mathlib.Core.Bool.{Bool, true, false}
 use mathlib.Core.List.{List, [], _∷_, map}
-use Prim.Native.Nat.{ℕ, _+_, _*_, _%_, _≤_, _<_}
+use Prim.Native.Nat.{ℕ, _+_}
 use native.Mathlib.Nat.{zero-mod}
 use native.Mathlib.Omega.{arith}
 use lib.Dec.{eqb}
-use lib.ListN.{length}
 use borrow.Author.Tests.{eq-eqb}
 use Rattle.words.specs.Bytes.{Bytes}
 use Rattle.words.specs.Rule.{pick, bit, times, count}
 use Rattle.words.specs.Table.{Each}
-use Rattle.words.proofs.Rules.{Says, holds, fails, says-eqb}
+use Rattle.words.proofs.Rules.{Says, holds, says-eqb}
 use Rattle.allocator.specs.Sizes.{acceptedSize}
 use Rattle.allocator.specs.Allocator.{Allocator, free, wordsOf, withSize}
 use Rattle.allocator.specs.Allocator as Allocator
