@@ -29,3 +29,6 @@ pub mod Released
 pub mod Cut
 pub mod Runs
 pub mod Freeing
+pub mod ShrunkBytes
+pub mod Resizes
+pub mod ResizeKept

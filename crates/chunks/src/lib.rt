@@ -2,8 +2,10 @@
 mod cutting;
 mod limits;
 mod reading;
+mod resizing;
 mod rows;
 mod writing;
 
 pub use limits::set_limit;
 pub use reading::read;
+pub use resizing::resize_file;
