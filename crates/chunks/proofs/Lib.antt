@@ -22,3 +22,5 @@ pub mod Only
 pub mod Released
 pub mod Cutting
 pub mod Runs
+pub mod Takes
+pub mod OneChunk
