@@ -13,7 +13,8 @@ use borrow.Author.Tests.{ltb-true, ltb-false, lt-ltb, le-ltb}
 use Rattle.words.specs.Bytes.{part, over, zeros}
 use Rattle.words.proofs.Parts.{length-zeros, zeros-add, length-over, length-part, over-mid, over-in, cut, two}
 use Rattle.volume.specs.Volume.{Volume}
-use Rattle.chunks.specs.Store.{room}
+use Rattle.chunks.specs.Store.{room, missing}
+use Rattle.chunks.specs.Write.{numOf, holes}
 use Rattle.chunks.proofs.Pieces.{over-all}
 
 -- ---- bytes written into a part
@@ -71,6 +72,11 @@ pub room-is : (v : Volume) {c rows area next free s r : ℕ} → c ≡ v .chunkR
     → r ≡ min (c - rows) (free + (area - next) / s) → r ≡ room v
 unfolding room
 room-is v ec er ea en ef es h = h ∙ rw (ec, er, ea, en, ef, es)
+
+-- room compared with holes
+pub cramped-is : (v : Volume) (n offset count : ℕ) {s t a b : ℕ} → s ≡ v .allocator .chunkSize → t ≡ numOf s offset count → a ≡ room v → b ≡ missing n t (offset / s) (v .chunks) → ltb a b ≡ ltb (room v) (holes n offset count v)
+unfolding holes
+cramped-is v n offset count es et ea eb = rw (ea, eb, et, es)
 
 -- their number is no great one
 pub room-small : (area s free : ℕ) → area < 18446744073709551616 → 4096 ≤ s → free ≤ 4096 → free + area / s < 18446744073709551616

@@ -32,3 +32,5 @@ pub mod Freeing
 pub mod ShrunkBytes
 pub mod Resizes
 pub mod ResizeKept
+pub mod Takes
+pub mod OneChunk

@@ -14,13 +14,7 @@ use Rattle.volume.proofs.Lens.{onto, write-bytes}
 use Rattle.tables.specs.Tables.{Ready}
 use Rattle.tables.proofs.Rooms.{rooms, area-long}
 use Rattle.chunks.proofs.Fills.{part-written}
-
--- the part that is lent, as a part
-pub lent-is : (l : List ℕ) (at n : ℕ) → take (at + n - at) (drop at l) ≡ part l at n
-unfolding part
-lent-is l at n =
-    let w : at + n - at ≡ n = omega arith in
-    rw w
+use Rattle.chunks.proofs.Pieces.{area-lent}
 
 module _ (l : List ℕ) (y : Layout) (r : Ready l y) (p : ℕ) {s : ℕ} (size : (s ≡ shown l .allocator .chunkSize) × (0 < s) × (s ≤ 65536)) (inside : p + shown l .allocator .chunkSize ≤ length (shown l .bytes)) where
   -- a chunk ends in the volume
@@ -30,15 +24,20 @@ module _ (l : List ℕ) (y : Layout) (r : Ready l y) (p : ℕ) {s : ℕ} (size :
   bytes-at : y .bytes ≡ atBytes (shown l .nodeRoom) (shown l .entryRoom) (shown l .chunkRoom)
   bytes-at = ap (λ z. z .bytes) (r .layout)
 
+  -- all its bytes written
+  pub chunk-put : (bs : List ℕ) → length bs ≡ s → {ys : List ℕ} → ys ≡ bs → take (y .bytes + p) l ++ (ys ++ drop (y .bytes + p + s - (y .bytes + p)) (drop (y .bytes + p) l)) ≡ laid (withBytes (over (shown l .bytes) p bs) (shown l))
+  chunk-put bs n {ys} e =
+      let w : y .bytes + p ≡ atBytes (shown l .nodeRoom) (shown l .entryRoom) (shown l .chunkRoom) + p = omega (arith, bytes-at) in
+      lent-at l (y .bytes + p) s ys bs e n
+      ∙ onto (laid (shown l)) (y .bytes + p) bs (sym (r .formed .same)) refl (write-bytes (shown l) (spaced (shown l) (r .formed .fits)) p (y .bytes + p) bs (omega (arith, size .0)) w)
+
   -- bytes written at a place of it
   pub piece-put : (place : ℕ) (bs : List ℕ) → place + length bs ≤ shown l .allocator .chunkSize → {ys : List ℕ} → ys ≡ over (take (y .bytes + p + s - (y .bytes + p)) (drop (y .bytes + p) l)) place bs
       → take (y .bytes + p) l ++ (ys ++ drop (y .bytes + p + s - (y .bytes + p)) (drop (y .bytes + p) l)) ≡ laid (withBytes (over (shown l .bytes) (p + place) bs) (shown l))
   piece-put place bs h {ys} e =
-      let at = y .bytes + p in
-      let n : length (part l at s) ≡ s = length-part l at s chunk-ends in
+      let q = part (shown l .bytes) p s in
+      let n : length q ≡ s = length-part (shown l .bytes) p s (omega (arith, size .0)) in
       let k : place + length bs ≤ s = omega (arith, size .0) in
-      let m : length (over (part l at s) place bs) ≡ s = length-over (part l at s) place bs (omega arith) ∙ n in
-      let w : at + place ≡ atBytes (shown l .nodeRoom) (shown l .entryRoom) (shown l .chunkRoom) + (p + place) = omega (arith, bytes-at) in
-      lent-at l at s ys (over (part l at s) place bs) (e ∙ ap (λ (q : List ℕ). over q place bs) (lent-is l at s)) m
-      ∙ part-written l at s place bs chunk-ends k
-      ∙ onto (laid (shown l)) (at + place) bs (sym (r .formed .same)) refl (write-bytes (shown l) (spaced (shown l) (r .formed .fits)) (p + place) (at + place) bs (omega arith) w)
+      let m : length (over q place bs) ≡ s = length-over q place bs (omega arith) ∙ n in
+      chunk-put (over q place bs) m (e ∙ ap (λ (x : List ℕ). over x place bs) (area-lent l y r p s))
+      ∙ ap (λ (x : List ℕ). laid (withBytes x (shown l))) (part-written (shown l .bytes) p s place bs (omega (arith, size .0)) k)
