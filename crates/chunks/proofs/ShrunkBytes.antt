@@ -221,4 +221,4 @@ module _ (n z : ℕ) (v : Volume) where
 
     pub shrunk-high : (j : ℕ) → z ≤ j → byteAt (shrunk n z v) n j ≡ 0
     unfolding shrunk
-    shrunk-high j h = tail-high n z w stored-w shrink-enough j h (rw (cut-size n c v) (λ i. byte-high n c v st j (le-div-iff-mul-le (st .size) .0 i)))
+    shrunk-high j h = tail-high n z w stored-w shrink-enough j h (λ i. byte-high n c v st j (le-div-iff-mul-le (st .size) .0 (rw (cut-size n c v) at i)))
