@@ -52,6 +52,10 @@ uint32_t lentilraft_set_chunk_size(uint8_t *volume, size_t length, uint64_t size
    1: unsound memory. 2: no such node. 3: a directory. The count of a refusal is 0. */
 uint32_t lentilraft_read(const uint8_t *volume, size_t length, uint64_t node, uint64_t offset, uint8_t *buffer, size_t buffer_length, uint64_t *count);
 
+/* Cuts or extends a file. What lies above its old size reads as zero; what is cut off is gone.
+   1: unsound memory. 2: no such node. 3: a directory. 5: above the file's limit. 6: the last chunk is a hole, and there is no room for it. */
+uint32_t lentilraft_resize_file(uint8_t *volume, size_t length, uint64_t node, uint64_t size);
+
 /* Sets a limit of a file's size, at most 2^40 and not below its size; or clears it, so that 2^40 is the limit.
    1: unsound memory. 2: no such node. 3: a directory. 13: above 2^40. 5: below the file's size. */
 uint32_t lentilraft_set_limit(uint8_t *volume, size_t length, uint64_t node, uint64_t limit);

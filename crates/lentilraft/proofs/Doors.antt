@@ -24,7 +24,7 @@ use Rattle.volume.specs.Sound.{Good}
 use Rattle.tables.specs.Tables.{Ready}
 use Rattle.soundness.specs.Check.{sound}
 use Rattle.soundness.proofs.Checked.{sound-true, framed-ready}
-use Rattle.lentilraft.specs.Door.{door, doorInto, check, setChunkSize, setLimit, read}
+use Rattle.lentilraft.specs.Door.{door, doorInto, check, setChunkSize, setLimit, read, resizeFile}
 use Rattle.lentilraft.specs.Report.{text, leastOutput, report}
 
 -- ---- of a memory that passed the check
@@ -108,3 +108,6 @@ one-read n offset l buffer a b = one-outcome (read n offset l buffer) a b
 
 pub one-set-limit : (n : ℕ) (m : Limit) (l : List ℕ) (a b : Outcome) → a ≡ setLimit n m l → b ≡ setLimit n m l → a ≡ b
 one-set-limit n m l a b = one-outcome (setLimit n m l) a b
+
+pub one-resize-file : (n size : ℕ) (l : List ℕ) (a b : Outcome) → a ≡ resizeFile n size l → b ≡ resizeFile n size l → a ≡ b
+one-resize-file n size l a b = one-outcome (resizeFile n size l) a b

@@ -31,7 +31,9 @@ use Rattle.volume.proofs.Frames.{framed-laid}
 use Rattle.soundness.proofs.Checked.{true-sound}
 use Rattle.chunks.specs.Limits as Limits
 use Rattle.chunks.proofs.Limited.{limit-kept}
-use Rattle.lentilraft.specs.Door.{door, chunkSizeSet, setChunkSize, setLimit}
+use Rattle.chunks.specs.Resize as Resize
+use Rattle.chunks.proofs.ResizeKept.{resize-kept}
+use Rattle.lentilraft.specs.Door.{door, chunkSizeSet, setChunkSize, setLimit, resizeFile}
 
 -- a volume that fits and is good is sound when it is laid out
 pub laid-sound : (v : Volume) → Fits v → Good v → Sound (laid v)
@@ -128,3 +130,7 @@ set-sound s l b h = door-sound (chunkSizeSet s) (set-kept s) l b h
 pub limit-sound : (n : ℕ) (m : Limit) (l : List ℕ) → Bytes l → Sound l → Sound (setLimit n m l .bytes)
 unfolding setLimit
 limit-sound n m l b h = door-sound (Limits.setLimit n m) (limit-kept n m) l b h
+
+pub resize-sound : (n size : ℕ) (l : List ℕ) → Bytes l → Sound l → Sound (resizeFile n size l .bytes)
+unfolding resizeFile
+resize-sound n size l b h = door-sound (Resize.resize n size) (resize-kept n size) l b h

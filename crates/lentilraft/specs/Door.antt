@@ -15,6 +15,7 @@ use Rattle.volume.specs.Steps.{Step}
 use Rattle.soundness.specs.Check.{sound}
 use Rattle.chunks.specs.Limits as Limits
 use Rattle.chunks.specs.Read as Read
+use Rattle.chunks.specs.Resize as Resize
 
 unfoldable pub door : List ℕ → (Volume → Step) → Outcome
 door l call = pick (sound l) (outcome (call (shown l) .answer) (laid (call (shown l) .after))) (refused UnsoundMemory l)
@@ -33,6 +34,9 @@ setChunkSize s l = door l (chunkSizeSet s)
 
 unfoldable pub setLimit : ℕ → Limit → List ℕ → Outcome
 setLimit n limit l = door l (Limits.setLimit n limit)
+
+unfoldable pub resizeFile : ℕ → ℕ → List ℕ → Outcome
+resizeFile n size l = door l (Resize.resize n size)
 
 -- a call that reads a volume into a buffer: the outcome is the answer and the buffer's bytes
 unfoldable pub doorInto : List ℕ → List ℕ → (Volume → List ℕ → Outcome) → Outcome

@@ -7,7 +7,7 @@ use types::Error;
 use types::Limit;
 ghost use mathlib.Core.Path.{_≡_};
 ghost use Rattle.types.specs.Outcomes.{outcome};
-ghost use Rattle.lentilraft.specs.Door.{check, setChunkSize, setLimit, read};
+ghost use Rattle.lentilraft.specs.Door.{check, setChunkSize, setLimit, read, resizeFile};
 ghost use Rattle.lentilraft.specs.Report.{report};
 
 // The least room for a report.
@@ -65,4 +65,14 @@ pub fn set_limit(volume: &mut [u8], node: u64, limit: Limit) -> Answer
     }
     let layout = volume::read_layout(volume);
     chunks::set_limit(volume, layout, node, limit)
+}
+
+pub fn resize_file(volume: &mut [u8], node: u64, size: u64) -> Answer
+    ensures { λ r. ⌜ outcome r (now (volume .exit)) ≡ resizeFile node size (now (volume .entry)) ⌝ }
+{
+    if !soundness::sound(volume) {
+        return Answer::Refused(Error::UnsoundMemory);
+    }
+    let layout = volume::read_layout(volume);
+    chunks::resize_file(volume, layout, node, size)
 }

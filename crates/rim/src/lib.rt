@@ -6,7 +6,7 @@ ghost use Rattle.types.specs.declared.Limit.the-variants.{Unlimited, AtMost};
 ghost use Rattle.types.specs.Answers.{number, value};
 ghost use Rattle.allocator.specs.Opening.{opened};
 ghost use Rattle.volume.specs.Fresh.{newVolume};
-ghost use Rattle.lentilraft.specs.Door.{check, setChunkSize, setLimit, read};
+ghost use Rattle.lentilraft.specs.Door.{check, setChunkSize, setLimit, read, resizeFile};
 ghost use Rattle.lentilraft.specs.Report.{report};
 
 #[no_mangle]
@@ -80,4 +80,11 @@ pub extern "C" fn lentilraft_clear_limit(volume: &mut [u8], node: u64) -> u32
     ensures { λ r. ⌜ (r ≡ number (setLimit node Unlimited (now (volume .entry)) .answer)) × (now (volume .exit) ≡ setLimit node Unlimited (now (volume .entry)) .bytes) ⌝ }
 {
     types::number(lentilraft::set_limit(volume, node, Limit::Unlimited))
+}
+
+#[no_mangle]
+pub extern "C" fn lentilraft_resize_file(volume: &mut [u8], node: u64, size: u64) -> u32
+    ensures { λ r. ⌜ (r ≡ number (resizeFile node size (now (volume .entry)) .answer)) × (now (volume .exit) ≡ resizeFile node size (now (volume .entry)) .bytes) ⌝ }
+{
+    types::number(lentilraft::resize_file(volume, node, size))
 }
