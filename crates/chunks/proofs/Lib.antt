@@ -24,3 +24,4 @@ pub mod Cutting
 pub mod Runs
 pub mod Takes
 pub mod OneChunk
+pub mod Laps
