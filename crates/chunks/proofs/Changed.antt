@@ -16,21 +16,17 @@ use Rattle.words.proofs.Rules.{Says, holds, fails, says-eqb}
 use Rattle.words.proofs.Order.{each-at, each-map}
 use Rattle.types.specs.declared.NodeRecord.{NodeRecord}
 use Rattle.volume.specs.Rows.{readNode}
-use Rattle.volume.specs.Sound.{nodeBefore}
+use Rattle.volume.specs.Volume.{Volume}
+use Rattle.volume.specs.Sound.{node, nodeBefore}
 use Rattle.volume.specs.Steps.{changed}
 use Rattle.tables.specs.Tables.{nodeAt, foundNode}
 use Rattle.tables.specs.declared.Found.the-variants.{At}
 use Rattle.tables.proofs.Finds.{node-found}
+use Rattle.chunks.proofs.FoundRows.{found-passes}
 
--- what a search finds passes its test
-pub found-hits : {R : Type 0} (hit : R → Bool) (rs : List R) (r : R) → find hit rs ≡ some r → hit r ≡ true
-unfolding find pick
-found-hits hit [] r e = let x : _≡_ {A = ℕ} 0 1 = cc in absurd (omega arith)
-found-hits hit (s ∷ rs) r e = go (hit s) refl e (found-hits hit rs r)
-  where
-    go : (b : Bool) → hit s ≡ b → pick b (some s) (find hit rs) ≡ some r → (find hit rs ≡ some r → hit r ≡ true) → hit r ≡ true
-    go true q z k = let w : s ≡ r = cc in rw w at q
-    go false q z k = k z
+pub node-is : (n : ℕ) (v : Volume) (r : NodeRecord) → node n v ≡ some r → r .node ≡ n
+unfolding node
+node-is n v r e = eqb-true (r .node) n (found-passes (λ s. eqb (s .node) n) (v .nodes) r e)
 
 -- behind a row of an ascending table no row has its number
 others : (n : ℕ) (r : NodeRecord) (rs : List NodeRecord) → r .node ≡ n → Each (nodeBefore r) rs → Each (λ s. eqb (s .node) n ≡ false) rs
@@ -60,7 +56,7 @@ module _ (n : ℕ) (f : NodeRecord → NodeRecord) where
   pub changed-set : (rs : List NodeRecord) (i : ℕ) → Asc nodeBefore rs → At i ≡ foundNode n rs → changed n f rs ≡ set rs i (f (nodeAt rs i))
   changed-set rs i a e =
       let k = node-found n rs i e in
-      changed-at rs i a (k .0) (eqb-true _ n (found-hits (λ r. eqb (r .node) n) rs (nodeAt rs i) (k .1)))
+      changed-at rs i a (k .0) (eqb-true _ n (found-passes (λ r. eqb (r .node) n) rs (nodeAt rs i) (k .1)))
 
   -- ---- what holds of every row, where it holds of the changed one
 

@@ -2,7 +2,7 @@
 -- Assumes nothing.
 use mathlib.Core.Path.{_≡_, refl, sym, ap, _∙_}
 use mathlib.Core.Bool.{Bool, true, false}
-use mathlib.Core.List.{List, [], _∷_, _++_}
+use mathlib.Core.List.{List, [], _++_}
 use mathlib.Core.Option.{Option, none, some}
 use Prim.Native.Nat.{ℕ, _+_, _-_, _≤_, _<_}
 use native.Mathlib.Nat.{sub-zero, zero-add}
@@ -11,18 +11,15 @@ use denote.Enum.Declared.{tagOf}
 use lib.Dec.{eqb}
 use lib.ListN.{length, take, drop, getD, List·getD-append}
 use lib.Seq.{length-take-le, getD-append-add, getD-drop}
-use borrow.Author.Tests.{eqb-true}
 use Rattle.words.specs.Bytes.{over}
 use Rattle.words.specs.Rule.{pick}
-use Rattle.words.specs.Table.{Asc, find}
+use Rattle.words.specs.Table.{Asc}
 use Rattle.words.proofs.Order.{each-at}
 use Rattle.words.proofs.Rules.{pick-true, pick-false}
 use Rattle.types.specs.Sizes.{mostSize}
-use Rattle.types.specs.Nodes.{kindByte, limitWord, fileLimit}
+use Rattle.types.specs.Nodes.{kindByte}
 use Rattle.types.specs.Answers.{number, value}
 use Rattle.types.specs.Outcomes.{refused, done}
-use Rattle.types.specs.declared.Limit.{Limit}
-use Rattle.types.specs.declared.Limit.the-variants.{Unlimited, AtMost}
 use Rattle.types.specs.declared.NodeRecord.{NodeRecord}
 use Rattle.types.specs.declared.Error.the-variants.{NoSuchEntry, IsDirectory}
 use Rattle.volume.specs.Rows.{readNode}
@@ -37,26 +34,10 @@ use Rattle.tables.proofs.Finds.{node-found, node-absent}
 use Rattle.chunks.specs.Content.{byteAt, bytesFrom}
 use Rattle.chunks.specs.Read.{readCount, read, readFrom}
 use Rattle.chunks.proofs.Content.{length-from, from-at}
+use Rattle.chunks.proofs.Changed.{node-is}
+use Rattle.chunks.proofs.Changing.{limit-most}
 
--- ---- the row found
-
--- what a search finds passes its test
-pub found-hits : {R : Type 0} (hit : R → Bool) (rs : List R) (r : R) → find hit rs ≡ some r → hit r ≡ true
-unfolding find pick
-found-hits hit [] r e = let x : _≡_ {A = ℕ} 0 1 = cc in absurd (omega arith)
-found-hits hit (s ∷ rs) r e = go (hit s) refl e (found-hits hit rs r)
-  where
-    go : (b : Bool) → hit s ≡ b → pick b (some s) (find hit rs) ≡ some r → (find hit rs ≡ some r → hit r ≡ true) → hit r ≡ true
-    go true q z k = let w : s ≡ r = cc in rw w at q
-    go false q z k = k z
-
-pub node-is : (n : ℕ) (v : Volume) (r : NodeRecord) → node n v ≡ some r → r .node ≡ n
-unfolding node
-node-is n v r e = eqb-true (r .node) n (found-hits (λ s. eqb (s .node) n) (v .nodes) r e)
-
-limit-most : (m : Limit) → limitWord m ≤ mostSize → fileLimit m ≤ mostSize
-limit-most Unlimited h = omega arith
-limit-most (AtMost n) h = h
+-- ---- sizes
 
 -- sizes are at most 2^40
 pub size-most : (v : Volume) → Good v → Fits v → (i : ℕ) → i < length (v .nodes) → nodeAt (v .nodes) i .size ≤ mostSize

@@ -1,7 +1,7 @@
--- Laws of `released`: pointers freed one after another, over any allocator.
+-- Laws of `released`: pointers freed one after another, over any allocator, and the volume with it.
 -- Assumes nothing.
 use mathlib.Core.Path.{_≡_, refl, sym, ap, _∙_}
-use mathlib.Core.List.{List, [], _∷_, _++_, append-nil, append-assoc}
+use mathlib.Core.List.{List, [], _∷_, _++_, map, append-nil, append-assoc}
 use Prim.Native.Nat.{ℕ, _+_, _^_, _≤_, _<_}
 use native.Mathlib.Nat.{add-zero}
 use native.Mathlib.Omega.{arith}
@@ -11,7 +11,12 @@ use Rattle.words.proofs.Order.{each-append, each-left, each-right}
 use Rattle.allocator.specs.Allocator.{Allocator, free, release, wordsOf}
 use Rattle.allocator.proofs.Accounts.{freed-words}
 use Rattle.allocator.proofs.Laid as AllocatorLaid
+use Rattle.volume.specs.declared.ChunkRow.{ChunkRow}
+use Rattle.volume.specs.Volume.{Volume, withAllocator}
+use Rattle.volume.specs.Framed.{ChunkFits, Fits}
 use Rattle.volume.proofs.Pieces.{each-set}
+use Rattle.volume.proofs.Laid.{allocator-fits}
+use Rattle.volume.proofs.Frames.{fits-allocator}
 use Rattle.chunks.specs.Store.{released}
 
 -- what freeing so many pointers makes of an allocator, but for which ones are free
@@ -71,10 +76,23 @@ release-fits p a h k f =
       );
     }
 
-pub all-fit : (ps : List ℕ) (a : Allocator) → Each (λ p. p < 2 ^ 64) ps → a .freeCount + length ps < 2 ^ 64 → AllocatorLaid.Fits a → AllocatorLaid.Fits (released ps a)
+all-fit : (ps : List ℕ) (a : Allocator) → Each (λ p. p < 2 ^ 64) ps → a .freeCount + length ps < 2 ^ 64 → AllocatorLaid.Fits a → AllocatorLaid.Fits (released ps a)
 unfolding released Each
 all-fit [] a h k f = f
 all-fit (p ∷ ps) a h k f = all-fit ps (release p a) (h .1) fits (release-fits p a (h .0) (omega arith) f)
   where
     fits : release p a .freeCount + length ps < 2 ^ 64
     fits = unfold release in omega arith
+
+-- the pointers of rows that fit
+pub pointers-small : (cs : List ChunkRow) → Each ChunkFits cs → Each (λ p. p < 2 ^ 64) (map (λ c. c .pointer) cs)
+unfolding Each
+pointers-small [] h = tt
+pointers-small (c ∷ cs) h = (h .0 .pointer, pointers-small cs (h .1))
+
+-- ---- the volume with them freed
+
+pub released-fits : (v : Volume) → Fits v → (ps : List ℕ) → Each (λ p. p < 2 ^ 64) ps → v .allocator .freeCount + length ps ≤ v .chunkRoom → Fits (withAllocator (released ps (v .allocator)) v)
+released-fits v f ps h k =
+    let a = freed-all ps (v .allocator) in
+    fits-allocator v f (released ps (v .allocator)) (a .mark ∙ f .mark) (all-fit ps (v .allocator) h (omega (arith, f .placed .chunks)) (allocator-fits v f)) (a .words ∙ f .words) (rw (a .size) (f .size)) (omega (arith, a .count))

@@ -5,3 +5,5 @@ pub mod Store
 pub mod Write
 pub mod Resize
 pub mod Stored
+pub mod Posix
+pub mod Boundary

@@ -59,7 +59,7 @@ fn exceeds(limit: u64, offset: u64, count: u64) -> bool
 }
 
 // How many chunks can still be taken.
-fn count_room(volume: &[u8], layout: Layout) -> u64
+pub fn count_room(volume: &[u8], layout: Layout) -> u64
     requires { ⌜ Ready (now volume) layout × Stored (shown (now volume)) ⌝ }
     ensures { λ r. ⌜ r ≡ room (shown (now (volume .entry))) ⌝ }
 {
@@ -135,7 +135,7 @@ fn put_piece(volume: &mut [u8], layout: Layout, pointer: u64, place: usize, byte
 }
 
 // Takes a chunk for an index without a row, puts its row in at the row given, and fills it.
-fn take_chunk(
+pub fn take_chunk(
     volume: &mut [u8],
     layout: Layout,
     node: u64,

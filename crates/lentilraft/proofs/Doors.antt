@@ -1,20 +1,22 @@
 -- What stands behind the door: a sound memory is a volume laid out, and a refusal leaves it as it was. One possible outcome of each call.
 -- Assumes nothing.
 use mathlib.Core.Path.{_≡_, refl, sym, ap, _∙_}
-use mathlib.Core.Bool.{Bool, true, false}
+use mathlib.Core.Bool.{true, false}
 use mathlib.Core.List.{List}
 use Prim.Native.Nat.{ℕ, _≤_, _<_}
-use lib.Dec.{ltb}
 use lib.ListN.{length}
 use borrow.Author.Tests.{lt-ltb, le-ltb}
 use Rattle.words.specs.Bytes.{Bytes, word, over}
 use Rattle.words.proofs.Rules.{pick-true, pick-false}
+use Rattle.types.specs.declared.Limit.{Limit}
 use Rattle.types.specs.declared.Answer.{Answer}
 use Rattle.types.specs.declared.Answer.the-variants.{Done, Refused}
 use Rattle.types.specs.declared.Error.the-variants.{UnsoundMemory, OutputTooShort}
 use Rattle.types.specs.Outcomes.{Outcome, outcome}
 use Rattle.volume.specs.declared.Layout.{Layout}
 use Rattle.volume.specs.Volume.{Volume, shown, laid}
+use Rattle.allocator.specs.Opening.{opened}
+use Rattle.volume.specs.Fresh.{newVolume}
 use Rattle.volume.specs.Steps.{Step}
 use Rattle.volume.specs.Geometry.{layoutOf}
 use Rattle.volume.specs.Framed.{Headed}
@@ -22,7 +24,7 @@ use Rattle.volume.specs.Sound.{Good}
 use Rattle.tables.specs.Tables.{Ready}
 use Rattle.soundness.specs.Check.{sound}
 use Rattle.soundness.proofs.Checked.{sound-true, framed-ready}
-use Rattle.lentilraft.specs.Door.{door, doorInto, check, setChunkSize, read}
+use Rattle.lentilraft.specs.Door.{door, doorInto, check, setChunkSize, setLimit, read}
 use Rattle.lentilraft.specs.Report.{text, leastOutput, report}
 
 -- ---- of a memory that passed the check
@@ -86,6 +88,12 @@ module _ (l buffer : List ℕ) (call : Volume → List ℕ → Outcome) where
 pub one-outcome : {A : Type 0} (said : A) (one two : A) → one ≡ said → two ≡ said → one ≡ two
 one-outcome said one two p q = p ∙ sym q
 
+pub one-new-volume : (n e c s : ℕ) (l : List ℕ) (a b : Outcome) → a ≡ newVolume n e c s l → b ≡ newVolume n e c s l → a ≡ b
+one-new-volume n e c s l a b = one-outcome (newVolume n e c s l) a b
+
+pub one-open : (l : List ℕ) (a b : Outcome) → a ≡ opened l → b ≡ opened l → a ≡ b
+one-open l a b = one-outcome (opened l) a b
+
 pub one-check : (l : List ℕ) (a b : Answer) → a ≡ check l → b ≡ check l → a ≡ b
 one-check l a b = one-outcome (check l) a b
 
@@ -97,3 +105,6 @@ one-report l out a b = one-outcome (report l out) a b
 
 pub one-read : (n offset : ℕ) (l buffer : List ℕ) (a b : Outcome) → a ≡ read n offset l buffer → b ≡ read n offset l buffer → a ≡ b
 one-read n offset l buffer a b = one-outcome (read n offset l buffer) a b
+
+pub one-set-limit : (n : ℕ) (m : Limit) (l : List ℕ) (a b : Outcome) → a ≡ setLimit n m l → b ≡ setLimit n m l → a ≡ b
+one-set-limit n m l a b = one-outcome (setLimit n m l) a b

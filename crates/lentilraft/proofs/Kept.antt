@@ -3,36 +3,46 @@
 use mathlib.Core.Path.{_≡_, refl, sym, ap, _∙_}
 use mathlib.Core.Bool.{Bool, true, false}
 use mathlib.Core.List.{List, [], _∷_, map}
-use Prim.Native.Nat.{ℕ, _+_, _*_, _%_, _≤_, _<_}
+use Prim.Native.Nat.{ℕ, _+_}
 use native.Mathlib.Nat.{zero-mod}
 use native.Mathlib.Omega.{arith}
 use lib.Dec.{eqb}
-use lib.ListN.{length}
 use borrow.Author.Tests.{eq-eqb}
 use Rattle.words.specs.Bytes.{Bytes}
 use Rattle.words.specs.Rule.{pick, bit, times, count}
 use Rattle.words.specs.Table.{Each}
-use Rattle.words.proofs.Rules.{Says, holds, fails, says-eqb}
+use Rattle.words.proofs.Rules.{Says, holds, says-eqb}
 use Rattle.allocator.specs.Sizes.{acceptedSize}
 use Rattle.allocator.specs.Allocator.{Allocator, free, wordsOf, withSize}
 use Rattle.allocator.specs.Allocator as Allocator
 use Rattle.allocator.specs.Pointers.{due}
 use Rattle.allocator.proofs.Accounts.{due-none}
 use Rattle.allocator.proofs.Sized.{accepted-bounds}
+use Rattle.types.specs.declared.Limit.{Limit}
 use Rattle.types.specs.declared.Answer.the-variants.{Done, Refused}
 use Rattle.types.specs.declared.Error.the-variants.{InvalidArgument}
 use Rattle.volume.specs.declared.ChunkRow.{ChunkRow}
 use Rattle.volume.specs.Volume.{Volume, shown, laid, withAllocator}
+use Rattle.volume.specs.Steps.{Step}
 use Rattle.volume.specs.Framed.{Fits}
 use Rattle.volume.specs.Sound.{node, Good, Sound}
 use Rattle.volume.proofs.Laid.{shown-laid, framed-formed}
 use Rattle.volume.proofs.Frames.{framed-laid}
 use Rattle.soundness.proofs.Checked.{true-sound}
-use Rattle.lentilraft.specs.Door.{door, chunkSizeSet, setChunkSize}
+use Rattle.chunks.specs.Limits as Limits
+use Rattle.chunks.proofs.Limited.{limit-kept}
+use Rattle.lentilraft.specs.Door.{door, chunkSizeSet, setChunkSize, setLimit}
 
 -- a volume that fits and is good is sound when it is laid out
 pub laid-sound : (v : Volume) → Fits v → Good v → Sound (laid v)
 laid-sound v f g = record { framed = framed-laid v f; good = rw (shown-laid v f) g }
+
+-- a call that keeps what fits and is good leaves a sound memory sound, whatever it answers
+pub door-sound : (call : Volume → Step) → ((v : Volume) → Fits v → Good v → Fits (call v .after) × Good (call v .after)) → (l : List ℕ) → Bytes l → Sound l → Sound (door l call .bytes)
+unfolding door pick
+door-sound call keeps l b h =
+    let k = keeps (shown l) (framed-formed l b (h .framed) .fits) (h .good) in
+    rw (true-sound l h) (laid-sound (call (shown l) .after) (k .0) (k .1))
 
 -- ---- set chunk size
 
@@ -110,8 +120,11 @@ set-kept s v f g = size-cases (λ a. Fits (withAllocator a v) × Good (withAlloc
 
 -- set chunk size leaves a sound memory sound
 pub set-sound : (s : ℕ) (l : List ℕ) → Bytes l → Sound l → Sound (setChunkSize s l .bytes)
-unfolding setChunkSize door pick
-set-sound s l b h =
-    let f = framed-formed l b (h .framed) .fits in
-    let k = set-kept s (shown l) f (h .good) in
-    rw (true-sound l h) (laid-sound (chunkSizeSet s (shown l) .after) (k .0) (k .1))
+unfolding setChunkSize
+set-sound s l b h = door-sound (chunkSizeSet s) (set-kept s) l b h
+
+-- ---- the calls on files
+
+pub limit-sound : (n : ℕ) (m : Limit) (l : List ℕ) → Bytes l → Sound l → Sound (setLimit n m l .bytes)
+unfolding setLimit
+limit-sound n m l b h = door-sound (Limits.setLimit n m) (limit-kept n m) l b h

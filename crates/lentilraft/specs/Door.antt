@@ -4,6 +4,7 @@
 use Prim.Native.Nat.{ℕ}
 use mathlib.Core.List.{List}
 use Rattle.words.specs.Rule.{pick}
+use Rattle.types.specs.declared.Limit.{Limit}
 use Rattle.types.specs.declared.Answer.{Answer}
 use Rattle.types.specs.declared.Answer.the-variants.{Done, Refused}
 use Rattle.types.specs.declared.Error.the-variants.{UnsoundMemory}
@@ -12,6 +13,7 @@ use Rattle.allocator.specs.Allocator as Allocator
 use Rattle.volume.specs.Volume.{Volume, shown, laid, withAllocator}
 use Rattle.volume.specs.Steps.{Step}
 use Rattle.soundness.specs.Check.{sound}
+use Rattle.chunks.specs.Limits as Limits
 use Rattle.chunks.specs.Read as Read
 
 unfoldable pub door : List ℕ → (Volume → Step) → Outcome
@@ -28,6 +30,9 @@ chunkSizeSet s v = record { answer = Allocator.setChunkSize s (v .allocator) .an
 
 unfoldable pub setChunkSize : ℕ → List ℕ → Outcome
 setChunkSize s l = door l (chunkSizeSet s)
+
+unfoldable pub setLimit : ℕ → Limit → List ℕ → Outcome
+setLimit n limit l = door l (Limits.setLimit n limit)
 
 -- a call that reads a volume into a buffer: the outcome is the answer and the buffer's bytes
 unfoldable pub doorInto : List ℕ → List ℕ → (Volume → List ℕ → Outcome) → Outcome

@@ -4,9 +4,10 @@ mod text;
 
 use types::Answer;
 use types::Error;
+use types::Limit;
 ghost use mathlib.Core.Path.{_≡_};
 ghost use Rattle.types.specs.Outcomes.{outcome};
-ghost use Rattle.lentilraft.specs.Door.{check, setChunkSize, read};
+ghost use Rattle.lentilraft.specs.Door.{check, setChunkSize, setLimit, read};
 ghost use Rattle.lentilraft.specs.Report.{report};
 
 // The least room for a report.
@@ -53,4 +54,15 @@ pub fn read(volume: &[u8], node: u64, offset: u64, buffer: &mut [u8]) -> Answer
     }
     let layout = volume::read_layout(volume);
     chunks::read(volume, layout, node, offset, buffer)
+}
+
+// A limit of a file's size, or none.
+pub fn set_limit(volume: &mut [u8], node: u64, limit: Limit) -> Answer
+    ensures { λ r. ⌜ outcome r (now (volume .exit)) ≡ setLimit node limit (now (volume .entry)) ⌝ }
+{
+    if !soundness::sound(volume) {
+        return Answer::Refused(Error::UnsoundMemory);
+    }
+    let layout = volume::read_layout(volume);
+    chunks::set_limit(volume, layout, node, limit)
 }

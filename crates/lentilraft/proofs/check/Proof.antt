@@ -1,23 +1,17 @@
 use borrow.Author.Needs.{needs}
 use Rattle.lentilraft.proofs.check.Statement.{statement}
 use Rattle.lentilraft.proofs.check.Tie as tie
-use Rattle.lentilraft.proofs.check.Reads as reads
-use Rattle.lentilraft.proofs.check.Lts as lts
-use Rattle.soundness.proofs.sound.Reads as sound-reads
 use denote.Ref.{now}
 use Rattle.words.proofs.Rules.{call-yes, call-no}
 use Rattle.lentilraft.proofs.Doors.{check-open, check-shut}
 
--- src/lib.rt:18:9
 sound-requires : tie.Need-sound-requires
 sound-requires c κs = search needs
 
--- src/lib.rt:19:9
 returns : tie.Need-returns
 returns c =
     check-shut (now (c .before .before .before .args .volume)) (call-no (c .before .sound .ensures) (c .if1 .taken))
 
--- src/lib.rt:15:1
 returns-2 : tie.Need-returns-2
 returns-2 c =
     check-open (now (c .before .before .before .args .volume)) (call-yes (c .before .sound .ensures) (c .if1 .left))

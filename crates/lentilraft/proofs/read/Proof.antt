@@ -1,11 +1,6 @@
 use borrow.Author.Needs.{needs}
 use Rattle.lentilraft.proofs.read.Statement.{statement}
 use Rattle.lentilraft.proofs.read.Tie as tie
-use Rattle.lentilraft.proofs.read.Reads as reads
-use Rattle.lentilraft.proofs.read.Lts as lts
-use Rattle.chunks.proofs.read.Reads as read-reads
-use Rattle.soundness.proofs.sound.Reads as sound-reads
-use Rattle.volume.proofs.read_layout.Reads as read-layout-reads
 use denote.Ref.{now}
 use native.Mathlib.Omega.{arith}
 use Rattle.words.specs.Bytes.{Bytes}
@@ -14,32 +9,26 @@ use Rattle.chunks.specs.Read as Read
 use Rattle.lentilraft.specs.Door.{read}
 use Rattle.lentilraft.proofs.Doors.{door-headed, door-good, door-ready, into-shut, into-open}
 
--- src/lib.rt:51:9
 sound-requires : tie.Need-sound-requires
 sound-requires c κs = search needs
 
--- src/lib.rt:52:9
 returns : tie.Need-returns
 unfolding read
 returns c =
     into-shut (now (c .before .before .before .before .args .volume)) (now (c .before .before .before .before .args .buffer)) (Read.read (c .before .before .before .before .args .node) (c .before .before .before .before .args .offset)) (call-no (c .before .sound .ensures) (c .if1 .taken))
 
--- src/lib.rt:54:9
 read-layout-requires : tie.Need-read-layout-requires
 read-layout-requires c κs =
     door-headed (now (c .before .before .before .before .args .volume)) (call-yes (c .before .sound .ensures) (c .if1 .left))
 
--- src/lib.rt:55:5
 read-requires : tie.Need-read-requires
 unfolding Bytes
 read-requires c κs =
     (door-ready (now (c .before .before .before .before .before .before .args .volume)) (call-yes (c .before .before .before .sound .ensures) (c .before .before .if1 .left)) (λ i. omega (arith, c .before .before .before .before .before .shared-slice-known .given i)) (c .before .read-layout .ensures), door-good (now (c .before .before .before .before .before .before .args .volume)) (call-yes (c .before .before .before .sound .ensures) (c .before .before .if1 .left)))
 
--- src/lib.rt:48:1
 same-length : tie.Need-same-length
 same-length c = search needs
 
--- src/lib.rt:48:1
 returns-2 : tie.Need-returns-2
 unfolding read
 returns-2 c =

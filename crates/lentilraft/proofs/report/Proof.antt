@@ -1,47 +1,35 @@
 use borrow.Author.Needs.{needs}
 use Rattle.lentilraft.proofs.report.Statement.{statement}
 use Rattle.lentilraft.proofs.report.Tie as tie
-use Rattle.lentilraft.proofs.report.Reads as reads
-use Rattle.lentilraft.proofs.report.Lts as lts
-use Rattle.lentilraft.proofs.text.put_text.Reads as put-text-reads
-use Rattle.soundness.proofs.sound.Reads as sound-reads
-use Rattle.volume.proofs.read_layout.Reads as read-layout-reads
 use denote.Ref.{now}
 use native.Mathlib.Omega.{arith}
 use Rattle.words.specs.Bytes.{Bytes}
 use Rattle.words.proofs.Rules.{call-yes, call-no}
 use Rattle.lentilraft.proofs.Doors.{door-headed, door-ready, report-shut, report-short, report-full}
 
--- src/lib.rt:37:9
 sound-requires : tie.Need-sound-requires
 sound-requires c κs = search needs
 
--- src/lib.rt:38:9
 returns : tie.Need-returns
 returns c =
     report-shut (now (c .before .before .before .before .args .volume)) (now (c .before .before .before .before .args .out)) (call-no (c .before .sound .ensures) (c .if1 .taken))
 
--- src/lib.rt:41:9
 returns-2 : tie.Need-returns-2
 returns-2 c =
     report-short (now (c .before .before .before .before .before .args .volume)) (now (c .before .before .before .before .before .args .out)) (call-yes (c .before .before .sound .ensures) (c .before .if1 .left)) (c .if2 .taken)
 
--- src/lib.rt:43:9
 read-layout-requires : tie.Need-read-layout-requires
 read-layout-requires c κs =
     door-headed (now (c .before .before .before .before .before .args .volume)) (call-yes (c .before .before .sound .ensures) (c .before .if1 .left))
 
--- src/lib.rt:44:9
 put-text-requires : tie.Need-put-text-requires
 unfolding Bytes
 put-text-requires c κs =
     (door-ready (now (c .before .before .before .before .before .before .before .args .volume)) (call-yes (c .before .before .before .before .sound .ensures) (c .before .before .before .if1 .left)) (λ i. omega (arith, c .before .before .before .before .before .before .shared-slice-known .given i)) (c .before .read-layout .ensures), c .before .before .if2 .left)
 
--- src/lib.rt:34:1
 same-length : tie.Need-same-length
 same-length c = search needs
 
--- src/lib.rt:34:1
 returns-3 : tie.Need-returns-3
 returns-3 c =
     report-full (now (c .before .before .before .before .before .before .before .before .before .before .args .volume)) (now (c .before .before .before .before .before .before .before .before .before .before .args .out)) (call-yes (c .before .before .before .before .before .before .before .sound .ensures) (c .before .before .before .before .before .before .if1 .left)) (c .before .before .before .before .before .if2 .left) (c .before .before .put-text .ensures .0) (c .before .before .put-text .ensures .2)

@@ -1,11 +1,6 @@
 use borrow.Author.Needs.{needs}
 use Rattle.lentilraft.proofs.set_chunk_size.Statement.{statement}
 use Rattle.lentilraft.proofs.set_chunk_size.Tie as tie
-use Rattle.lentilraft.proofs.set_chunk_size.Reads as reads
-use Rattle.lentilraft.proofs.set_chunk_size.Lts as lts
-use Rattle.soundness.proofs.sound.Reads as sound-reads
-use Rattle.tables.proofs.set_chunk_size.Reads as set-chunk-size-reads
-use Rattle.volume.proofs.read_layout.Reads as read-layout-reads
 use denote.Ref.{now}
 use native.Mathlib.Omega.{arith}
 use Rattle.words.specs.Bytes.{Bytes}
@@ -13,36 +8,29 @@ use Rattle.words.proofs.Rules.{call-yes, call-no}
 use Rattle.lentilraft.specs.Door.{chunkSizeSet, setChunkSize}
 use Rattle.lentilraft.proofs.Doors.{door-headed, door-ready, door-open, door-shut}
 
--- src/lib.rt:27:9
 sound-requires : tie.Need-sound-requires
 sound-requires c κs = search needs
 
--- src/lib.rt:28:9
 same-length : tie.Need-same-length
 same-length c = search needs
 
--- src/lib.rt:28:9
 returns : tie.Need-returns
 unfolding setChunkSize
 returns c =
     door-shut (now (c .before .before .before .before .args .volume)) (chunkSizeSet (c .before .before .before .before .args .size)) (call-no (c .before .sound .ensures) (c .if1 .taken))
 
--- src/lib.rt:30:9
 read-layout-requires : tie.Need-read-layout-requires
 read-layout-requires c κs =
     door-headed (now (c .before .before .before .before .before .args .volume)) (call-yes (c .before .before .sound .ensures) (c .before .if1 .left))
 
--- src/lib.rt:31:5
 set-chunk-size-requires : tie.Need-set-chunk-size-requires
 unfolding Bytes
 set-chunk-size-requires c κs =
     door-ready (now (c .before .before .before .before .before .before .before .args .volume)) (call-yes (c .before .before .before .before .sound .ensures) (c .before .before .before .if1 .left)) (λ i. omega (arith, c .before .before .before .before .before .before .slice-known .given i)) (c .before .read-layout .ensures)
 
--- src/lib.rt:24:1
 same-length-2 : tie.Need-same-length-2
 same-length-2 c = search needs
 
--- src/lib.rt:24:1
 returns-2 : tie.Need-returns-2
 unfolding setChunkSize chunkSizeSet
 returns-2 c =

@@ -1,54 +1,40 @@
 use borrow.Author.Needs.{needs}
 use Rattle.soundness.proofs.check.is_good.Statement.{statement}
 use Rattle.soundness.proofs.check.is_good.Tie as tie
-use Rattle.soundness.proofs.check.is_good.Reads as reads
-use Rattle.soundness.proofs.check.is_good.Lts as lts
-use Rattle.soundness.proofs.check.is_numbered.Reads as is-numbered-reads
-use Rattle.soundness.proofs.check.is_ordered.Reads as is-ordered-reads
-use Rattle.soundness.proofs.check.is_related.Reads as is-related-reads
-use Rattle.soundness.proofs.check.is_stored.Reads as is-stored-reads
 use denote.Ref.{now}
 use Rattle.words.proofs.Rules.{stop, go-on, call-yes, call-no, says-true}
 use Rattle.volume.specs.Volume.{shown}
 use Rattle.soundness.specs.Check.{good}
 use Rattle.soundness.proofs.Checked.{says-ordered, sizes-most}
 
--- src/check.rt:102:9
 is-ordered-requires : tie.Need-is-ordered-requires
 is-ordered-requires c κs = search needs
 
--- src/check.rt:103:9
 returns : tie.Need-returns
 unfolding good
 returns c = stop _ _ (call-no (c .before .is-ordered .ensures) (c .if1 .taken))
 
--- src/check.rt:105:9
 is-numbered-requires : tie.Need-is-numbered-requires
 is-numbered-requires c κs = search needs
 
--- src/check.rt:106:9
 returns-2 : tie.Need-returns-2
 unfolding good
 returns-2 c =
     go-on _ _ (call-yes (c .before .before .before .is-ordered .ensures) (c .before .before .if1 .left)) (stop _ _ (call-no (c .before .is-numbered .ensures) (c .if2 .taken)))
 
--- src/check.rt:108:9
 is-related-requires : tie.Need-is-related-requires
 is-related-requires c κs =
     (c .before .before .before .before .before .pre, (says-true (says-ordered (shown (now (c .before .before .before .before .before .args .volume)))) (call-yes (c .before .before .before .is-ordered .ensures) (c .before .before .if1 .left))) .0, (says-true (says-ordered (shown (now (c .before .before .before .before .before .args .volume)))) (call-yes (c .before .before .before .is-ordered .ensures) (c .before .before .if1 .left))) .1 .0)
 
--- src/check.rt:109:9
 returns-3 : tie.Need-returns-3
 unfolding good
 returns-3 c =
     go-on _ _ (call-yes (c .before .before .before .before .before .is-ordered .ensures) (c .before .before .before .before .if1 .left)) (go-on _ _ (call-yes (c .before .before .before .is-numbered .ensures) (c .before .before .if2 .left)) (stop _ _ (call-no (c .before .is-related .ensures) (c .if3 .taken))))
 
--- src/check.rt:111:5
 is-stored-requires : tie.Need-is-stored-requires
 is-stored-requires c κs =
     (c .before .before .before .before .before .before .before .pre, (says-true (says-ordered (shown (now (c .before .before .before .before .before .before .before .args .volume)))) (call-yes (c .before .before .before .before .before .is-ordered .ensures) (c .before .before .before .before .if1 .left))) .0, sizes-most (shown (now (c .before .before .before .before .before .before .before .args .volume))) (c .before .before .before .before .before .before .before .pre .formed .fits) (call-yes (c .before .is-related .ensures) (c .if3 .left)) ((says-true (says-ordered (shown (now (c .before .before .before .before .before .before .before .args .volume)))) (call-yes (c .before .before .before .before .before .is-ordered .ensures) (c .before .before .before .before .if1 .left))) .0) ((says-true (says-ordered (shown (now (c .before .before .before .before .before .before .before .args .volume)))) (call-yes (c .before .before .before .before .before .is-ordered .ensures) (c .before .before .before .before .if1 .left))) .1 .0))
 
--- src/check.rt:98:1
 returns-4 : tie.Need-returns-4
 unfolding good
 returns-4 c =

@@ -1,60 +1,43 @@
 use borrow.Author.Needs.{needs}
 use Rattle.soundness.proofs.check.is_numbered.Statement.{statement}
 use Rattle.soundness.proofs.check.is_numbered.Tie as tie
-use Rattle.soundness.proofs.check.is_numbered.Reads as reads
-use Rattle.soundness.proofs.check.is_numbered.Lts as lts
-use Rattle.soundness.proofs.order.entries_indexed.Reads as entries-indexed-reads
-use Rattle.soundness.proofs.order.is_rooted.Reads as is-rooted-reads
-use Rattle.soundness.proofs.order.names_allowed.Reads as names-allowed-reads
-use Rattle.soundness.proofs.order.nodes_below_next.Reads as nodes-below-next-reads
-use Rattle.soundness.proofs.order.root_unnamed.Reads as root-unnamed-reads
 use Rattle.words.proofs.Rules.{stop, go-on, call-yes, call-no}
 use Rattle.soundness.specs.Check.{numbered}
 
--- src/check.rt:47:9
 entries-indexed-requires : tie.Need-entries-indexed-requires
 entries-indexed-requires c κs = search needs
 
--- src/check.rt:48:9
 returns : tie.Need-returns
 unfolding numbered
 returns c = stop _ _ (call-no (c .before .entries-indexed .ensures) (c .if1 .taken))
 
--- src/check.rt:50:9
 nodes-below-next-requires : tie.Need-nodes-below-next-requires
 nodes-below-next-requires c κs = search needs
 
--- src/check.rt:51:9
 returns-2 : tie.Need-returns-2
 unfolding numbered
 returns-2 c =
     go-on _ _ (call-yes (c .before .before .before .entries-indexed .ensures) (c .before .before .if1 .left)) (stop _ _ (call-no (c .before .nodes-below-next .ensures) (c .if2 .taken)))
 
--- src/check.rt:53:9
 is-rooted-requires : tie.Need-is-rooted-requires
 is-rooted-requires c κs = search needs
 
--- src/check.rt:54:9
 returns-3 : tie.Need-returns-3
 unfolding numbered
 returns-3 c =
     go-on _ _ (call-yes (c .before .before .before .before .before .entries-indexed .ensures) (c .before .before .before .before .if1 .left)) (go-on _ _ (call-yes (c .before .before .before .nodes-below-next .ensures) (c .before .before .if2 .left)) (stop _ _ (call-no (c .before .is-rooted .ensures) (c .if3 .taken))))
 
--- src/check.rt:56:9
 root-unnamed-requires : tie.Need-root-unnamed-requires
 root-unnamed-requires c κs = search needs
 
--- src/check.rt:57:9
 returns-4 : tie.Need-returns-4
 unfolding numbered
 returns-4 c =
     go-on _ _ (call-yes (c .before .before .before .before .before .before .before .entries-indexed .ensures) (c .before .before .before .before .before .before .if1 .left)) (go-on _ _ (call-yes (c .before .before .before .before .before .nodes-below-next .ensures) (c .before .before .before .before .if2 .left)) (go-on _ _ (call-yes (c .before .before .before .is-rooted .ensures) (c .before .before .if3 .left)) (stop _ _ (call-no (c .before .root-unnamed .ensures) (c .if4 .taken)))))
 
--- src/check.rt:59:5
 names-allowed-requires : tie.Need-names-allowed-requires
 names-allowed-requires c κs = search needs
 
--- src/check.rt:43:1
 returns-5 : tie.Need-returns-5
 unfolding numbered
 returns-5 c =

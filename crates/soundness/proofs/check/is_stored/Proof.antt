@@ -1,73 +1,51 @@
 use borrow.Author.Needs.{needs}
 use Rattle.soundness.proofs.check.is_stored.Statement.{statement}
 use Rattle.soundness.proofs.check.is_stored.Tie as tie
-use Rattle.soundness.proofs.check.is_stored.Reads as reads
-use Rattle.soundness.proofs.check.is_stored.Lts as lts
-use Rattle.soundness.proofs.owners.chunks_owned.Reads as chunks-owned-reads
-use Rattle.soundness.proofs.pointers.next_fits.Reads as next-fits-reads
-use Rattle.soundness.proofs.pointers.pointers_good.Reads as pointers-good-reads
-use Rattle.tables.proofs.area_size.Reads as area-size-reads
-use Rattle.tables.proofs.chunk_room.Reads as chunk-room-reads
-use Rattle.tables.proofs.chunk_size.Reads as chunk-size-reads
-use Rattle.tables.proofs.free_count.Reads as free-count-reads
-use Rattle.tables.proofs.max_ptr.Reads as max-ptr-reads
 use denote.Ref.{now}
 use mathlib.Core.Path.{_∙_}
-use native.Mathlib.Omega.{arith}
 use Rattle.words.proofs.Rules.{stop, go-on, call-yes, call-no}
 use Rattle.volume.specs.Volume.{shown}
 use Rattle.soundness.specs.Check.{stored}
 use Rattle.soundness.proofs.FreeWords.{count-told}
 use Rattle.soundness.proofs.Checked.{next-as, pointers-as, owned-as, inside-as}
 
--- src/check.rt:84:9
 chunk-size-requires : tie.Need-chunk-size-requires
 chunk-size-requires c κs = search needs
 
--- src/check.rt:85:9
 max-ptr-requires : tie.Need-max-ptr-requires
 max-ptr-requires c κs = search needs
 
--- src/check.rt:86:16
 area-size-requires : tie.Need-area-size-requires
 area-size-requires c κs = search needs
 
--- src/check.rt:87:18
 chunk-room-requires : tie.Need-chunk-room-requires
 chunk-room-requires c κs = search needs
 
--- src/check.rt:88:9
 next-fits-requires : tie.Need-next-fits-requires
 next-fits-requires c κs =
     (c .before .before .before .chunk-size .ensures .1, c .before .before .before .chunk-size .ensures .2, c .chunk-room .ensures .1)
 
--- src/check.rt:89:9
 returns : tie.Need-returns
 unfolding stored
 returns c =
     stop _ _ (call-no (next-as (shown (now (c .before .before .before .before .before .before .before .args .volume))) (c .before .before .before .before .before .chunk-size .ensures .0) (c .before .before .before .before .max-ptr .ensures) (c .before .before .before .area-size .ensures) (c .before .before .chunk-room .ensures .0) (c .before .next-fits .ensures)) (c .if1 .taken))
 
--- src/check.rt:91:17
 free-count-requires : tie.Need-free-count-requires
 free-count-requires c κs = search needs
 
--- src/check.rt:92:9
 pointers-good-requires : tie.Need-pointers-good-requires
 pointers-good-requires c κs =
     (c .before .before .before .before .before .before .before .before .pre .0, c .free-count .ensures .0 ∙ count-told (now (c .before .before .before .before .before .before .before .before .args .volume)) (c .before .before .before .before .before .before .before .before .args .layout) (c .before .before .before .before .before .before .before .before .pre .0), c .before .before .before .before .before .before .chunk-size .ensures .1)
 
--- src/check.rt:93:9
 returns-2 : tie.Need-returns-2
 unfolding stored
 returns-2 c =
     go-on _ _ (call-yes (next-as (shown (now (c .before .before .before .before .before .before .before .before .before .before .args .volume))) (c .before .before .before .before .before .before .before .before .chunk-size .ensures .0) (c .before .before .before .before .before .before .before .max-ptr .ensures) (c .before .before .before .before .before .before .area-size .ensures) (c .before .before .before .before .before .chunk-room .ensures .0) (c .before .before .before .before .next-fits .ensures)) (c .before .before .before .if1 .left)) (stop _ _ (call-no (pointers-as (shown (now (c .before .before .before .before .before .before .before .before .before .before .args .volume))) (c .before .before .before .before .before .before .before .before .chunk-size .ensures .0) (c .before .before .before .before .before .before .before .max-ptr .ensures) (c .before .pointers-good .ensures)) (c .if2 .taken)))
 
--- src/check.rt:95:5
 chunks-owned-requires : tie.Need-chunks-owned-requires
 chunks-owned-requires c κs =
     (c .before .before .before .before .before .before .before .before .before .before .pre .0, c .before .before .before .before .before .before .before .before .before .before .pre .1, c .before .before .before .before .before .before .before .before .chunk-size .ensures .1, c .before .before .before .before .before .before .before .before .chunk-size .ensures .2, c .before .before .before .before .before .before .before .before .before .before .pre .2, inside-as (shown (now (c .before .before .before .before .before .before .before .before .before .before .args .volume))) (c .before .before .before .before .before .before .before .before .chunk-size .ensures .0) (c .before .before .before .before .before .before .before .before .chunk-size .ensures .1) (call-yes (next-as (shown (now (c .before .before .before .before .before .before .before .before .before .before .args .volume))) (c .before .before .before .before .before .before .before .before .chunk-size .ensures .0) (c .before .before .before .before .before .before .before .max-ptr .ensures) (c .before .before .before .before .before .before .area-size .ensures) (c .before .before .before .before .before .chunk-room .ensures .0) (c .before .before .before .before .next-fits .ensures)) (c .before .before .before .if1 .left)) (call-yes (pointers-as (shown (now (c .before .before .before .before .before .before .before .before .before .before .args .volume))) (c .before .before .before .before .before .before .before .before .chunk-size .ensures .0) (c .before .before .before .before .before .before .before .max-ptr .ensures) (c .before .pointers-good .ensures)) (c .if2 .left)))
 
--- src/check.rt:80:1
 returns-3 : tie.Need-returns-3
 unfolding stored
 returns-3 c =

@@ -1,11 +1,6 @@
 use borrow.Author.Needs.{needs}
 use Rattle.soundness.proofs.check.sound.Statement.{statement}
 use Rattle.soundness.proofs.check.sound.Tie as tie
-use Rattle.soundness.proofs.check.sound.Reads as reads
-use Rattle.soundness.proofs.check.sound.Lts as lts
-use Rattle.soundness.proofs.check.is_good.Reads as is-good-reads
-use Rattle.soundness.proofs.frame.is_framed.Reads as is-framed-reads
-use Rattle.volume.proofs.read_layout.Reads as read-layout-reads
 use denote.Ref.{now}
 use Rattle.words.specs.Bytes.{Bytes}
 use native.Mathlib.Omega.{arith}
@@ -14,27 +9,22 @@ use Rattle.soundness.specs.Check.{sound}
 use Rattle.soundness.proofs.Frames.{framed-true}
 use Rattle.soundness.proofs.Checked.{framed-ready}
 
--- src/check.rt:118:9
 is-framed-requires : tie.Need-is-framed-requires
 is-framed-requires c κs = search needs
 
--- src/check.rt:119:9
 returns : tie.Need-returns
 unfolding sound
 returns c = stop _ _ (call-no (c .before .is-framed .ensures) (c .if1 .taken))
 
--- src/check.rt:121:9
 read-layout-requires : tie.Need-read-layout-requires
 read-layout-requires c κs =
     (framed-true (now (c .before .before .before .args .volume)) (call-yes (c .before .is-framed .ensures) (c .if1 .left))) .headed
 
--- src/check.rt:122:5
 is-good-requires : tie.Need-is-good-requires
 unfolding Bytes
 is-good-requires c κs =
     framed-ready (now (c .before .before .before .before .args .volume)) (λ i. omega (arith, c .before .before .before .shared-slice-known .given i)) (framed-true (now (c .before .before .before .before .args .volume)) (call-yes (c .before .before .is-framed .ensures) (c .before .if1 .left))) (c .read-layout .ensures)
 
--- src/check.rt:115:1
 returns-2 : tie.Need-returns-2
 unfolding sound
 returns-2 c =

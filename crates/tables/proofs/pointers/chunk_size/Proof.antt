@@ -1,32 +1,24 @@
 use Rattle.tables.proofs.pointers.chunk_size.Statement.{statement}
 use Rattle.tables.proofs.pointers.chunk_size.Tie as tie
-use Rattle.tables.proofs.pointers.chunk_size.Reads as reads
-use Rattle.tables.proofs.pointers.chunk_size.Lts as lts
-use Rattle.allocator.proofs.chunk_size.Reads as chunk-size-reads
 use denote.Ref.{now}
 use mathlib.Core.Path.{_∙_}
 use native.Mathlib.Omega.{arith}
 use Rattle.tables.proofs.Rooms.{rooms}
-use Rattle.tables.proofs.Lent.{lent-long, lent-size, lent-count, lent-next, size-bounds}
+use Rattle.tables.proofs.Lent.{lent-long, lent-size, size-bounds}
 
--- src/pointers.rt:19:27
 sub-chunk-size : tie.Need-sub-chunk-size
 sub-chunk-size c = omega (arith, rooms (now (c .before .args .volume)) (c .before .args .layout) (c .before .pre))
 
--- src/pointers.rt:19:27
 part-chunk-size-start : tie.Need-part-chunk-size-start
 part-chunk-size-start c = omega (arith, rooms (now (c .before .args .volume)) (c .before .args .layout) (c .before .pre))
 
--- src/pointers.rt:19:27
 part-chunk-size-end : tie.Need-part-chunk-size-end
 part-chunk-size-end c = omega (arith, rooms (now (c .before .args .volume)) (c .before .args .layout) (c .before .pre))
 
--- src/pointers.rt:19:5
 chunk-size-requires : tie.Need-chunk-size-requires
 chunk-size-requires c κs =
     omega (arith, lent-long (now (c .before .before .args .volume)) (c .before .before .args .layout) (c .before .before .pre))
 
--- src/pointers.rt:14:1
 returns : tie.Need-returns
 returns c =
     (c .chunk-size .ensures ∙ lent-size (now (c .before .before .before .args .volume)) (c .before .before .before .args .layout) (c .before .before .before .pre), omega (arith, c .chunk-size .ensures, lent-size (now (c .before .before .before .args .volume)) (c .before .before .before .args .layout) (c .before .before .before .pre), size-bounds (now (c .before .before .before .args .volume)) (c .before .before .before .args .layout) (c .before .before .before .pre)), omega (arith, c .chunk-size .ensures, lent-size (now (c .before .before .before .args .volume)) (c .before .before .before .args .layout) (c .before .before .before .pre), size-bounds (now (c .before .before .before .args .volume)) (c .before .before .before .args .layout) (c .before .before .before .pre)))

@@ -1,32 +1,24 @@
 use Rattle.tables.proofs.pointers.free_count.Statement.{statement}
 use Rattle.tables.proofs.pointers.free_count.Tie as tie
-use Rattle.tables.proofs.pointers.free_count.Reads as reads
-use Rattle.tables.proofs.pointers.free_count.Lts as lts
-use Rattle.allocator.proofs.get_len.Reads as get-len-reads
 use denote.Ref.{now}
 use mathlib.Core.Path.{_∙_}
 use native.Mathlib.Omega.{arith}
 use Rattle.tables.proofs.Rooms.{rooms}
-use Rattle.tables.proofs.Lent.{lent-long, lent-size, lent-count, lent-next, size-bounds}
+use Rattle.tables.proofs.Lent.{lent-long, lent-count}
 
--- src/pointers.rt:27:24
 sub-get-len : tie.Need-sub-get-len
 sub-get-len c = omega (arith, rooms (now (c .before .args .volume)) (c .before .args .layout) (c .before .pre))
 
--- src/pointers.rt:27:24
 part-get-len-start : tie.Need-part-get-len-start
 part-get-len-start c = omega (arith, rooms (now (c .before .args .volume)) (c .before .args .layout) (c .before .pre))
 
--- src/pointers.rt:27:24
 part-get-len-end : tie.Need-part-get-len-end
 part-get-len-end c = omega (arith, rooms (now (c .before .args .volume)) (c .before .args .layout) (c .before .pre))
 
--- src/pointers.rt:27:5
 get-len-requires : tie.Need-get-len-requires
 get-len-requires c κs =
     omega (arith, lent-long (now (c .before .before .args .volume)) (c .before .before .args .layout) (c .before .before .pre))
 
--- src/pointers.rt:22:1
 returns : tie.Need-returns
 returns c =
     (c .get-len .ensures ∙ lent-count (now (c .before .before .before .args .volume)) (c .before .before .before .args .layout) (c .before .before .before .pre), omega (arith, c .get-len .ensures, lent-count (now (c .before .before .before .args .volume)) (c .before .before .before .args .layout) (c .before .before .before .pre), c .before .before .before .pre .formed .fits .free, c .before .before .before .pre .formed .fits .placed .chunks .1))

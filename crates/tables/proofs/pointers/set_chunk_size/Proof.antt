@@ -1,36 +1,27 @@
 use borrow.Author.Needs.{needs}
 use Rattle.tables.proofs.pointers.set_chunk_size.Statement.{statement}
 use Rattle.tables.proofs.pointers.set_chunk_size.Tie as tie
-use Rattle.tables.proofs.pointers.set_chunk_size.Reads as reads
-use Rattle.tables.proofs.pointers.set_chunk_size.Lts as lts
-use Rattle.allocator.proofs.set_chunk_size.Reads as set-chunk-size-reads
 use denote.Ref.{now}
 use native.Mathlib.Omega.{arith}
 use Rattle.tables.proofs.Rooms.{rooms}
 use Rattle.tables.proofs.Lent.{lent-formed, resized}
 
--- src/pointers.rt:59:31
 sub-set-chunk-size : tie.Need-sub-set-chunk-size
 sub-set-chunk-size c = omega (arith, rooms (now (c .before .args .volume)) (c .before .args .layout) (c .before .pre))
 
--- src/pointers.rt:59:31
 part-set-chunk-size-start : tie.Need-part-set-chunk-size-start
 part-set-chunk-size-start c = omega (arith, rooms (now (c .before .args .volume)) (c .before .args .layout) (c .before .pre))
 
--- src/pointers.rt:59:31
 part-set-chunk-size-end : tie.Need-part-set-chunk-size-end
 part-set-chunk-size-end c = omega (arith, rooms (now (c .before .args .volume)) (c .before .args .layout) (c .before .pre))
 
--- src/pointers.rt:59:5
 set-chunk-size-requires : tie.Need-set-chunk-size-requires
 set-chunk-size-requires c κs =
     lent-formed (now (c .before .before .args .volume)) (c .before .before .args .layout) (c .before .before .pre)
 
--- src/pointers.rt:54:1
 same-length : tie.Need-same-length
 same-length c = search needs
 
--- src/pointers.rt:54:1
 returns : tie.Need-returns
 returns c =
     resized (now (c .before .before .before .before .before .args .volume)) (c .before .before .before .before .before .args .layout) (c .before .before .before .before .before .pre) (c .before .before .before .before .before .args .size) (c .before .before .set-chunk-size .ensures)

@@ -2,19 +2,17 @@
 -- Assumes nothing.
 use mathlib.Core.Path.{_≡_, refl, sym, ap, _∙_}
 use mathlib.Core.Bool.{true, false, not}
-use mathlib.Core.List.{List, [], _∷_, _++_, map}
+use mathlib.Core.List.{List, _++_, map}
 use mathlib.Core.Option.{none}
-use Prim.Native.Nat.{ℕ, suc, _+_, _-_, _*_, _/_, _^_, _≤_, _<_}
+use Prim.Native.Nat.{ℕ, suc, _+_, _-_, _*_, _/_, _≤_, _<_}
 use native.Mathlib.Nat.{div-lt-iff-lt-mul, le-div-iff-mul-le, suc-mul}
 use native.Mathlib.Omega.{arith}
 use lib.ListN.{length, length-map}
 use lib.Seq.{length-take-le}
 use borrow.Author.Tests.{ne-eqb, eq-eqb, le-leb, lt-leb}
 use Rattle.words.specs.Rule.{both, count}
-use Rattle.words.specs.Table.{Each}
 use Rattle.words.proofs.Rules.{says-both, says-eqb, says-true}
 use Rattle.words.proofs.Counting.{count-append}
-use Rattle.words.proofs.Order.{each-map}
 use Rattle.allocator.specs.Allocator.{free}
 use Rattle.allocator.specs.Pointers.{due, Accounted}
 use Rattle.allocator.proofs.Counted.{all-pointers}
@@ -22,19 +20,13 @@ use Rattle.volume.specs.declared.ChunkRow.{ChunkRow}
 use Rattle.volume.specs.Volume.{Volume, withAllocator}
 use Rattle.volume.specs.Framed.{ChunkFits, Fits}
 use Rattle.volume.specs.Sound.{chunkBefore}
-use Rattle.volume.proofs.Laid.{allocator-fits}
-use Rattle.volume.proofs.Frames.{fits-allocator, fits-chunks}
+use Rattle.volume.proofs.Frames.{fits-chunks}
 use Rattle.tables.specs.Tables.{isChunk}
 use Rattle.chunks.specs.Content.{chunk, byteAt}
 use Rattle.chunks.specs.Store.{room, only, goes, released, cutFrom}
 use Rattle.chunks.specs.Stored.{Stored}
 use Rattle.chunks.proofs.Only.{rest, each-only, asc-only, find-only, find-gone, length-both, count-both, none-pass}
-use Rattle.chunks.proofs.Released.{Freed, freed-all, free-all, all-fit}
-
-each-mapped : {R : Type 0} (P : ℕ → Type 0) (f : R → ℕ) (rs : List R) → Each (λ r. P (f r)) rs → Each P (map f rs)
-unfolding Each
-each-mapped P f [] h = tt
-each-mapped P f (r ∷ rs) h = (h .0, each-mapped P f rs (h .1))
+use Rattle.chunks.proofs.Released.{Freed, freed-all, free-all, pointers-small, released-fits}
 
 -- ---- room for what may be freed
 
@@ -79,9 +71,10 @@ module _ (n c : ℕ) where
     length-freed : length freed ≡ length going
     length-freed = length-map going (λ r. r .pointer)
 
-    pub after : Freed (length freed) (v .allocator) (cutFrom n c v .allocator)
+    -- the allocator, but for which pointers are free
+    pub cut-allocator : Freed (length freed) (v .allocator) (cutFrom n c v .allocator)
     unfolding cutFrom
-    after = freed-all freed (v .allocator)
+    cut-allocator = freed-all freed (v .allocator)
 
     -- ---- what stays as it was
 
@@ -98,7 +91,7 @@ module _ (n c : ℕ) where
     cut-entries = refl
 
     pub cut-size : cutFrom n c v .allocator .chunkSize ≡ v .allocator .chunkSize
-    cut-size = after .size
+    cut-size = cut-allocator .size
 
     -- where no row goes, everything
     pub cut-none : length going ≡ 0 → cutFrom n c v ≡ v
@@ -152,36 +145,30 @@ module _ (n c : ℕ) where
       cut-pointers : (p : ℕ) → count p (map (λ r. r .pointer) (cutFrom n c v .chunks)) + count p (free (cutFrom n c v .allocator)) ≡ due (cutFrom n c v .allocator .chunkSize) (cutFrom n c v .allocator .nextPtr) p
       cut-pointers p =
           let a : count p (free (cutFrom n c v .allocator)) ≡ count p (free (v .allocator)) + count p freed = ap (count p) cut-free ∙ count-append p (free (v .allocator)) freed in
-          let d : due (cutFrom n c v .allocator .chunkSize) (cutFrom n c v .allocator .nextPtr) p ≡ due (v .allocator .chunkSize) (v .allocator .nextPtr) p = rw (after .size, after .next) in
+          let d : due (cutFrom n c v .allocator .chunkSize) (cutFrom n c v .allocator .nextPtr) p ≡ due (v .allocator .chunkSize) (v .allocator .nextPtr) p = rw (cut-allocator .size, cut-allocator .next) in
           let b : count p freed + count p (map (λ r. r .pointer) (cutFrom n c v .chunks)) ≡ count p (map (λ r. r .pointer) (v .chunks)) = unfold cutFrom in count-both (λ r. r .pointer) (goes n c) p (v .chunks) in
           omega (arith, s .pointers p)
 
       pub cut-stored : Stored (cutFrom n c v)
       cut-stored = unfold cutFrom in record {
-        size = rw (after .size) (s .size);
+        size = rw (cut-allocator .size) (s .size);
         order = asc-only chunkBefore (λ r. not (goes n c r)) (v .chunks) (s .order);
-        lined = rw (after .size, after .next) (s .lined);
-        inside = rw (after .next) (s .inside);
-        enough = rw (after .size, after .next) (s .enough);
+        lined = rw (cut-allocator .size, cut-allocator .next) (s .lined);
+        inside = rw (cut-allocator .next) (s .inside);
+        enough = rw (cut-allocator .size, cut-allocator .next) (s .enough);
         pointers = cut-pointers;
         rows = omega (arith, s .rows, length-both (goes n c) (v .chunks));
-        words = after .words ∙ s .words;
-        frees = omega (arith, after .count, freed-fit);
+        words = cut-allocator .words ∙ s .words;
+        frees = omega (arith, cut-allocator .count, freed-fit);
       }
 
       -- where a row goes, there is room for one
       pub cut-room : 0 < length going → 1 ≤ room (cutFrom n c v)
       unfolding room cutFrom
-      cut-room h = omega (arith, after .count, length-freed, length-both (goes n c) (v .chunks), s .rows)
-
-      small : Fits v → Each (λ p. p < 2 ^ 64) freed
-      small f = each-mapped (λ p. p < 2 ^ 64) (λ r. r .pointer) going (each-map ChunkFits (λ r. r .pointer < 2 ^ 64) (λ r h. h .pointer) going (each-only ChunkFits (goes n c) (v .chunks) (f .chunkRows)))
+      cut-room h = omega (arith, cut-allocator .count, length-freed, length-both (goes n c) (v .chunks), s .rows)
 
       pub cut-fits : Fits v → Fits (cutFrom n c v)
       unfolding cutFrom
       cut-fits f =
-          let a = released freed (v .allocator) in
-          let h = after in
-          fits-chunks (withAllocator a v)
-          (fits-allocator v f a (h .mark ∙ f .mark) (all-fit freed (v .allocator) (small f) (omega (arith, freed-fit, f .placed .chunks)) (allocator-fits v f)) (h .words ∙ f .words) (rw (h .size) (f .size)) (omega (arith, h .count, freed-fit)))
+          fits-chunks (withAllocator (released freed (v .allocator)) v) (released-fits v f freed (pointers-small going (each-only ChunkFits (goes n c) (v .chunks) (f .chunkRows))) freed-fit)
           (rest (goes n c) (v .chunks)) (omega (arith, f .chunks, length-both (goes n c) (v .chunks))) (each-only ChunkFits (λ r. not (goes n c r)) (v .chunks) (f .chunkRows))

@@ -1,0 +1,24 @@
+use borrow.Author.Needs.{needs}
+use Rattle.rim.proofs.lentilraft_report.Statement.{statement}
+use Rattle.rim.proofs.lentilraft_report.Tie as tie
+use Rattle.rim.proofs.Told.{told-number, told-value}
+
+report-requires : tie.Need-report-requires
+report-requires c κs = search needs
+
+value-requires : tie.Need-value-requires
+value-requires c κs = search needs
+
+number-requires : tie.Need-number-requires
+number-requires c κs = search needs
+
+same-length : tie.Need-same-length
+same-length c = search needs
+
+returns : tie.Need-returns
+returns c =
+    (told-number (c .before .before .before .before .report .ensures) (c .number .ensures .0) .0, told-number (c .before .before .before .before .report .ensures) (c .number .ensures .0) .1, told-value (c .before .before .before .before .report .ensures) (c .before .value .ensures))
+
+pub lentilraft-report-spec : {M : Type 1} → statement M
+lentilraft-report-spec =
+    tie.close (tie.spec report-requires value-requires number-requires same-length returns)

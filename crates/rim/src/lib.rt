@@ -1,0 +1,83 @@
+// The public calls for programs in C or Rust. Each function here is a call and the scope's numbers of its answer, and nothing else: it asks
+// nothing of its caller, and gives back 0 or the number of a refusal.
+use types::Limit;
+ghost use mathlib.Core.Path.{_≡_};
+ghost use Rattle.types.specs.declared.Limit.the-variants.{Unlimited, AtMost};
+ghost use Rattle.types.specs.Answers.{number, value};
+ghost use Rattle.allocator.specs.Opening.{opened};
+ghost use Rattle.volume.specs.Fresh.{newVolume};
+ghost use Rattle.lentilraft.specs.Door.{check, setChunkSize, setLimit, read};
+ghost use Rattle.lentilraft.specs.Report.{report};
+
+#[no_mangle]
+pub extern "C" fn lentilraft_new_volume(
+    volume: &mut [u8],
+    nodes: u64,
+    entries: u64,
+    chunks: u64,
+    size: u64,
+) -> u32
+    ensures { λ r. ⌜ (r ≡ number (newVolume nodes entries chunks size (now (volume .entry)) .answer)) × (now (volume .exit) ≡ newVolume nodes entries chunks size (now (volume .entry)) .bytes) ⌝ }
+{
+    types::number(volume::new_volume(volume, nodes, entries, chunks, size))
+}
+
+#[no_mangle]
+pub extern "C" fn lentilraft_check(volume: &[u8]) -> u32
+    ensures { λ r. ⌜ r ≡ number (check (now (volume .entry))) ⌝ }
+{
+    types::number(lentilraft::check(volume))
+}
+
+#[no_mangle]
+pub extern "C" fn lentilraft_open_allocator(words: &mut [u8]) -> u32
+    ensures { λ r. ⌜ (r ≡ number (opened (now (words .entry)) .answer)) × (now (words .exit) ≡ opened (now (words .entry)) .bytes) ⌝ }
+{
+    types::number(allocator::open(words))
+}
+
+#[no_mangle]
+pub extern "C" fn lentilraft_set_chunk_size(volume: &mut [u8], size: u64) -> u32
+    ensures { λ r. ⌜ (r ≡ number (setChunkSize size (now (volume .entry)) .answer)) × (now (volume .exit) ≡ setChunkSize size (now (volume .entry)) .bytes) ⌝ }
+{
+    types::number(lentilraft::set_chunk_size(volume, size))
+}
+
+// The count goes through a lent place: 0 for a refusal.
+#[no_mangle]
+pub extern "C" fn lentilraft_read(
+    volume: &[u8],
+    node: u64,
+    offset: u64,
+    buffer: &mut [u8],
+    count: &mut u64,
+) -> u32
+    ensures { λ r. ⌜ (r ≡ number (read node offset (now (volume .entry)) (now (buffer .entry)) .answer)) × (now (buffer .exit) ≡ read node offset (now (volume .entry)) (now (buffer .entry)) .bytes) × (now (count .exit) ≡ value (read node offset (now (volume .entry)) (now (buffer .entry)) .answer)) ⌝ }
+{
+    let answer = lentilraft::read(volume, node, offset, buffer);
+    *count = types::value(answer);
+    types::number(answer)
+}
+
+#[no_mangle]
+pub extern "C" fn lentilraft_report(volume: &[u8], out: &mut [u8], count: &mut u64) -> u32
+    ensures { λ r. ⌜ (r ≡ number (report (now (volume .entry)) (now (out .entry)) .answer)) × (now (out .exit) ≡ report (now (volume .entry)) (now (out .entry)) .bytes) × (now (count .exit) ≡ value (report (now (volume .entry)) (now (out .entry)) .answer)) ⌝ }
+{
+    let answer = lentilraft::report(volume, out);
+    *count = types::value(answer);
+    types::number(answer)
+}
+
+#[no_mangle]
+pub extern "C" fn lentilraft_set_limit(volume: &mut [u8], node: u64, limit: u64) -> u32
+    ensures { λ r. ⌜ (r ≡ number (setLimit node (AtMost limit) (now (volume .entry)) .answer)) × (now (volume .exit) ≡ setLimit node (AtMost limit) (now (volume .entry)) .bytes) ⌝ }
+{
+    types::number(lentilraft::set_limit(volume, node, Limit::AtMost(limit)))
+}
+
+#[no_mangle]
+pub extern "C" fn lentilraft_clear_limit(volume: &mut [u8], node: u64) -> u32
+    ensures { λ r. ⌜ (r ≡ number (setLimit node Unlimited (now (volume .entry)) .answer)) × (now (volume .exit) ≡ setLimit node Unlimited (now (volume .entry)) .bytes) ⌝ }
+{
+    types::number(lentilraft::set_limit(volume, node, Limit::Unlimited))
+}
