@@ -32,7 +32,7 @@ missing-most n (suc c) k cs = omega (arith, missing-most n c (suc k) cs, hole-mo
 
 module _ (n : ℕ) (cs : List ChunkRow) (asc : Asc chunkBefore cs) where
   -- one index: a hole, or one row
-  hole-lead : (k : ℕ) → hole (chunk n k cs) + lead (chunkUnder n (k + 1)) cs ≡ 1 + lead (chunkUnder n k) cs
+  pub hole-lead : (k : ℕ) → hole (chunk n k cs) + lead (chunkUnder n (k + 1)) cs ≡ 1 + lead (chunkUnder n k) cs
   hole-lead k = go (both (ltb p (length cs)) (isChunk n k (chunkAt cs p))) refl
     where
       p : ℕ

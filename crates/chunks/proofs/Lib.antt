@@ -35,3 +35,4 @@ pub mod Resizes
 pub mod ResizeKept
 pub mod Takes
 pub mod OneChunk
+pub mod Laps

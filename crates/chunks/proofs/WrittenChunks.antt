@@ -122,17 +122,17 @@ module _ (n offset : ℕ) (bs : List ℕ) where
     pub enough : missing n c k (v .chunks) ≤ room v
 
   module _ (c k : ℕ) (v : Volume) (r : Writable (suc c) k v) where
-    first-touched : Touched (v .allocator .chunkSize) offset (length bs) k
+    pub first-touched : Touched (v .allocator .chunkSize) offset (length bs) k
     first-touched = r .span k (omega arith) (omega arith)
 
-    first-enough : hole (chunk n k (v .chunks)) ≤ room v
+    pub first-enough : hole (chunk n k (v .chunks)) ≤ room v
     unfolding missing
     first-enough = omega (arith, r .enough)
 
     next-size : writeChunk n offset bs k v .allocator .chunkSize ≡ v .allocator .chunkSize
     next-size = kept-writeChunk n offset bs k v .rest .size
 
-    next-writable : Writable c (suc k) (writeChunk n offset bs k v)
+    pub next-writable : Writable c (suc k) (writeChunk n offset bs k v)
     unfolding missing
     next-writable = record {
       stored = writeChunk-stored v (r .stored) n offset bs k first-touched first-enough;

@@ -203,3 +203,27 @@ fn write_chunk(
         &bytes[start..start + count],
     );
 }
+
+// Writes all chunks that bytes at an offset touch.
+fn write_chunks_v2(volume: &mut [u8], layout: Layout, node: u64, offset: u64, bytes: &[u8])
+    requires { ⌜ Ready (now volume) layout × Stored (shown (now volume)) × (0 < length (now bytes)) × (offset + length (now bytes) ≤ 1099511627776) × (holes node offset (length (now bytes)) (shown (now volume)) ≤ room (shown (now volume))) ⌝ }
+    ensures { λ _. ⌜ now (volume .exit) ≡ laid (written node offset (now (bytes .entry)) (shown (now (volume .entry)))) ⌝ }
+{
+    let size = tables::chunk_size(volume, layout);
+    let first = offset / size;
+    let count = chunks_touched(offset, bytes.len() as u64, size);
+    let row = tables::first_chunk(volume, layout, node, first);
+    let mut i = 0;
+    while i < count {
+        write_chunk(
+            volume,
+            layout,
+            node,
+            offset,
+            bytes,
+            first + i,
+            row + i as usize,
+        );
+        i += 1;
+    }
+}
