@@ -14,7 +14,6 @@ use Rattle.volume.specs.declared.Layout.{Layout}
 use Rattle.volume.specs.declared.ChunkRow.{ChunkRow}
 use Rattle.volume.specs.Search.{chunkUnder}
 use Rattle.volume.specs.Volume.{Volume, shown, laid}
-use Rattle.volume.specs.Framed.{Fits}
 use Rattle.tables.specs.Tables.{Ready, layoutAt}
 use Rattle.tables.proofs.Finds.{PairBefore}
 use Rattle.chunks.specs.Content.{chunk}
@@ -23,7 +22,7 @@ use Rattle.chunks.specs.Write.{numOf, holes, written}
 use Rattle.chunks.specs.Stored.{Stored}
 use Rattle.chunks.proofs.Cursor.{says-under, false-says}
 use Rattle.chunks.proofs.HoleCount.{hole-lead}
-use Rattle.chunks.proofs.KeptFields.{Kept, kept-writeChunk}
+use Rattle.chunks.proofs.KeptFields.{kept-writeChunk}
 use Rattle.chunks.proofs.PutPiece.{Touched, put-rows}
 use Rattle.chunks.proofs.TakenChunk.{newRow}
 use Rattle.chunks.proofs.Takes.{ready-as, shown-as}

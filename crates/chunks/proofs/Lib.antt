@@ -36,3 +36,4 @@ pub mod ResizeKept
 pub mod Takes
 pub mod OneChunk
 pub mod Laps
+pub mod Writes

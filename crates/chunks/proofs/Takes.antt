@@ -1,6 +1,6 @@
 -- A chunk taken and filled, step by step: the pointer, the row put in, the bytes of the chunk as the part of the volume that is lent.
 -- Assumes nothing.
-use mathlib.Core.Path.{_≡_, refl, sym, ap, _∙_}
+use mathlib.Core.Path.{_≡_, sym, ap, _∙_}
 use mathlib.Core.List.{List, _++_}
 use mathlib.Core.Option.{none}
 use Prim.Native.Nat.{ℕ, _+_, _-_, _^_, _≤_, _<_}
@@ -14,7 +14,6 @@ use Rattle.words.proofs.Search.{lead-le}
 use Rattle.allocator.specs.Allocator.{allocate}
 use Rattle.allocator.proofs.Sized.{accepted-bounds}
 use Rattle.volume.specs.declared.Layout.{Layout}
-use Rattle.volume.specs.declared.ChunkRow.{ChunkRow}
 use Rattle.volume.specs.Search.{chunkUnder}
 use Rattle.volume.specs.Volume.{Volume, shown, laid, withAllocator, withChunks, withBytes}
 use Rattle.volume.specs.Framed.{Fits}

@@ -9,3 +9,4 @@ mod writing;
 pub use limits::set_limit;
 pub use reading::read;
 pub use resizing::resize_file;
+pub use writing::write;

@@ -7,7 +7,7 @@ use volume::ChunkRow;
 use volume::Layout;
 ghost use mathlib.Core.Path.{_≡_};
 ghost use mathlib.Core.Option.{none};
-ghost use Prim.Native.Nat.{ℕ, suc, _+_, _-_, _*_, _/_, max, min, _≤_, _<_};
+ghost use Prim.Native.Nat.{_+_, _-_, _*_, _/_, max, min, _≤_, _<_};
 ghost use lib.ListN.{length};
 ghost use lib.Dec.{ltb};
 ghost use Rattle.words.specs.Bytes.{over, zeros};
@@ -226,4 +226,33 @@ fn write_chunks_v2(volume: &mut [u8], layout: Layout, node: u64, offset: u64, by
         );
         i += 1;
     }
+}
+
+pub fn write(volume: &mut [u8], layout: Layout, node: u64, offset: u64, bytes: &[u8]) -> Answer
+    requires { ⌜ Ready (now volume) layout × Good (shown (now volume)) ⌝ }
+    ensures { λ r. ⌜ (r ≡ Write·write node offset (now (bytes .entry)) (shown (now (volume .entry))) .answer) × (now (volume .exit) ≡ laid (Write·write node offset (now (bytes .entry)) (shown (now (volume .entry))) .after)) ⌝ }
+{
+    let found = tables::find_node(volume, layout, node);
+    let Found::At(i) = found else {
+        return Answer::Refused(Error::NoSuchEntry);
+    };
+    let row = tables::node_row(volume, layout, i);
+    let kind = row.kind;
+    if types::is_directory(kind) {
+        return Answer::Refused(Error::IsDirectory);
+    }
+    let count = bytes.len() as u64;
+    if count == 0 {
+        return Answer::Done(0);
+    }
+    let limit = row.limit;
+    if exceeds(types::file_limit(limit), offset, count) {
+        return Answer::Refused(Error::FileTooLarge);
+    }
+    if is_cramped(volume, layout, node, offset, count) {
+        return Answer::Refused(Error::NoChunkRoom);
+    }
+    write_chunks_v2(volume, layout, node, offset, bytes);
+    tables::set_size(volume, layout, i, greater(row.size, offset + count));
+    Answer::Done(count)
 }

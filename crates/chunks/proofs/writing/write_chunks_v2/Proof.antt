@@ -1,11 +1,5 @@
 use Rattle.chunks.proofs.writing.write_chunks_v2.Statement.{statement}
 use Rattle.chunks.proofs.writing.write_chunks_v2.Tie as tie
-use Rattle.chunks.proofs.writing.write_chunks_v2.Reads as reads
-use Rattle.chunks.proofs.writing.write_chunks_v2.Lts as lts
-use Rattle.chunks.proofs.writing.chunks_touched.Reads as chunks-touched-reads
-use Rattle.chunks.proofs.writing.write_chunk.Reads as write-chunk-reads
-use Rattle.tables.proofs.first_chunk.Reads as first-chunk-reads
-use Rattle.tables.proofs.chunk_size.Reads as chunk-size-reads
 use borrow.Author.Needs.{needs}
 use denote.Ref.{now}
 use mathlib.Core.Path.{_≡_, refl}
@@ -22,60 +16,47 @@ Inv-loop volume₀ layout node offset bytes size first count row i₀ volume i =
 abbrev μ-loop : tie.MeasureT-loop
 μ-loop volume₀ layout node offset bytes size first count row i₀ volume i = count - i
 
--- src/writing.rt:173:9
 chunk-size-requires : tie.Need-chunk-size-requires Inv-loop μ-loop
 chunk-size-requires c κs = search needs
 
--- src/writing.rt:174:17
 div-first : tie.Need-div-first Inv-loop μ-loop
 div-first c = search needs
 
--- src/writing.rt:175:9
 chunks-touched-requires : tie.Need-chunks-touched-requires Inv-loop μ-loop
 chunks-touched-requires c κs =
     (c .before .before .before .before .pre .2, c .before .before .before .before .pre .3, c .chunk-size .ensures .1)
 
--- src/writing.rt:176:9
 first-chunk-requires : tie.Need-first-chunk-requires Inv-loop μ-loop
 first-chunk-requires c κs =
     (c .before .before .before .before .before .before .pre .0, c .before .before .before .before .before .before .pre .1 .order)
 
--- src/writing.rt:178:5
 loop-holds : tie.Need-loop-holds Inv-loop μ-loop
 loop-holds c =
     (write-start (now (c .before .before .before .before .before .before .before .args .volume)) (c .before .before .before .before .before .before .before .args .layout) (c .before .before .before .before .before .before .before .pre .0) (c .before .before .before .before .before .before .before .args .node) (c .before .before .before .before .before .before .before .args .offset) (now (c .before .before .before .before .before .before .before .args .bytes)) (c .before .before .before .before .before .before .before .pre .1) (c .before .before .before .before .before .before .before .pre .2) (c .before .before .before .before .before .before .before .pre .4) (c .before .before .before .chunk-size .ensures .0) refl (c .before .before .chunks-touched .ensures .0) (c .first-chunk .ensures .0), refl)
 
--- src/writing.rt:179:58
 add-write-chunk : tie.Need-add-write-chunk Inv-loop μ-loop
 add-write-chunk c = omega (arith, c .before .before .before .before .before .chunks-touched .ensures)
 
--- src/writing.rt:179:69
 add-write-chunk-2 : tie.Need-add-write-chunk-2 Inv-loop μ-loop
 add-write-chunk-2 c = search needs
 
--- src/writing.rt:179:9
 write-chunk-requires : tie.Need-write-chunk-requires Inv-loop μ-loop
 write-chunk-requires c κs =
     (chunk-asked (now (c .before .before .before .before .before .before .before .before .before .before .args .volume)) (c .before .before .before .before .before .before .before .before .before .before .args .layout) (c .before .before .before .before .before .before .before .before .before .before .pre .0) (c .before .before .before .before .before .before .before .before .before .before .args .node) (c .before .before .before .before .before .before .before .before .before .before .args .offset) (now (c .before .before .before .before .before .before .before .before .before .before .args .bytes)) (c .before .before .loop .inv .0) (c .before .loop-test .taken), (chunk-touched (now (c .before .before .before .before .before .before .before .before .before .before .args .volume)) (c .before .before .before .before .before .before .before .before .before .before .args .layout) (c .before .before .before .before .before .before .before .before .before .before .pre .0) (c .before .before .before .before .before .before .before .before .before .before .args .node) (c .before .before .before .before .before .before .before .before .before .before .args .offset) (now (c .before .before .before .before .before .before .before .before .before .before .args .bytes)) (c .before .before .loop .inv .0) (c .before .loop-test .taken) .0, chunk-touched (now (c .before .before .before .before .before .before .before .before .before .before .args .volume)) (c .before .before .before .before .before .before .before .before .before .before .args .layout) (c .before .before .before .before .before .before .before .before .before .before .pre .0) (c .before .before .before .before .before .before .before .before .before .before .args .node) (c .before .before .before .before .before .before .before .before .before .before .args .offset) (now (c .before .before .before .before .before .before .before .before .before .before .args .bytes)) (c .before .before .loop .inv .0) (c .before .loop-test .taken) .1, c .before .before .before .before .before .before .before .before .before .before .pre .3))
 
--- src/writing.rt:180:9
 add-i : tie.Need-add-i Inv-loop μ-loop
 add-i c = search needs
 
--- src/writing.rt:178:5
 loop-less : tie.Need-loop-less Inv-loop μ-loop
 loop-less c = search needs
 
--- src/writing.rt:178:5
 loop-again : tie.Need-loop-again Inv-loop μ-loop
 loop-again c =
     (write-turn (now (c .before .before .before .before .before .before .before .before .before .before .before .before .before .args .volume)) (c .before .before .before .before .before .before .before .before .before .before .before .before .before .args .layout) (c .before .before .before .before .before .before .before .before .before .before .before .before .before .pre .0) (c .before .before .before .before .before .before .before .before .before .before .before .before .before .args .node) (c .before .before .before .before .before .before .before .before .before .before .before .before .before .args .offset) (now (c .before .before .before .before .before .before .before .before .before .before .before .before .before .args .bytes)) (c .before .before .before .before .before .loop .inv .0) (c .before .before .before .before .loop-test .taken) (search needs) (omega (arith, c .before .before .before .before .before .before .before .before .chunks-touched .ensures)) (c .before .before .write-chunk .ensures), search needs)
 
--- src/writing.rt:169:1
 same-length : tie.Need-same-length Inv-loop μ-loop
 same-length c = search needs
 
--- src/writing.rt:169:1
 returns : tie.Need-returns Inv-loop μ-loop
 returns c =
     write-end (now (c .before .before .before .before .before .before .before .before .before .args .volume)) (c .before .before .before .before .before .before .before .before .before .args .layout) (c .before .before .before .before .before .before .before .before .before .pre .0) (c .before .before .before .before .before .before .before .before .before .args .node) (c .before .before .before .before .before .before .before .before .before .args .offset) (now (c .before .before .before .before .before .before .before .before .before .args .bytes)) (c .before .loop .inv .0) (c .loop-test .left)
