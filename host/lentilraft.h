@@ -56,6 +56,12 @@ uint32_t lentilraft_read(const uint8_t *volume, size_t length, uint64_t node, ui
    1: unsound memory. 2: no such node. 3: a directory. 5: above the file's limit. 6: the last chunk is a hole, and there is no room for it. */
 uint32_t lentilraft_resize_file(uint8_t *volume, size_t length, uint64_t node, uint64_t size);
 
+/* Writes bytes into a file at an offset, and tells how many. A gap before them costs nothing and reads as zero until it is written. The call is
+   carried out in full, or nothing changes.
+   1: unsound memory. 2: no such node. 3: a directory. 5: the end lies above the file's limit. 6: no room for the chunks. The count of a refusal
+   is 0. */
+uint32_t lentilraft_write(uint8_t *volume, size_t length, uint64_t node, uint64_t offset, const uint8_t *bytes, size_t bytes_length, uint64_t *count);
+
 /* Sets a limit of a file's size, at most 2^40 and not below its size; or clears it, so that 2^40 is the limit.
    1: unsound memory. 2: no such node. 3: a directory. 13: above 2^40. 5: below the file's size. */
 uint32_t lentilraft_set_limit(uint8_t *volume, size_t length, uint64_t node, uint64_t limit);

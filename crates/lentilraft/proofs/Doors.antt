@@ -24,7 +24,7 @@ use Rattle.volume.specs.Sound.{Good}
 use Rattle.tables.specs.Tables.{Ready}
 use Rattle.soundness.specs.Check.{sound}
 use Rattle.soundness.proofs.Checked.{sound-true, framed-ready}
-use Rattle.lentilraft.specs.Door.{door, doorInto, check, setChunkSize, setLimit, read, resizeFile}
+use Rattle.lentilraft.specs.Door.{door, doorInto, check, setChunkSize, setLimit, read, resizeFile, write}
 use Rattle.lentilraft.specs.Report.{text, leastOutput, report}
 
 -- ---- of a memory that passed the check
@@ -111,3 +111,6 @@ one-set-limit n m l a b = one-outcome (setLimit n m l) a b
 
 pub one-resize-file : (n size : ℕ) (l : List ℕ) (a b : Outcome) → a ≡ resizeFile n size l → b ≡ resizeFile n size l → a ≡ b
 one-resize-file n size l a b = one-outcome (resizeFile n size l) a b
+
+pub one-write : (n offset : ℕ) (bs l : List ℕ) (a b : Outcome) → a ≡ write n offset bs l → b ≡ write n offset bs l → a ≡ b
+one-write n offset bs l a b = one-outcome (write n offset bs l) a b

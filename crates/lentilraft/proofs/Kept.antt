@@ -31,9 +31,11 @@ use Rattle.volume.proofs.Frames.{framed-laid}
 use Rattle.soundness.proofs.Checked.{true-sound}
 use Rattle.chunks.specs.Limits as Limits
 use Rattle.chunks.proofs.Limited.{limit-kept}
+use Rattle.chunks.specs.Write as Write
+use Rattle.chunks.proofs.WriteKept.{write-kept}
 use Rattle.chunks.specs.Resize as Resize
 use Rattle.chunks.proofs.ResizeKept.{resize-kept}
-use Rattle.lentilraft.specs.Door.{door, chunkSizeSet, setChunkSize, setLimit, resizeFile}
+use Rattle.lentilraft.specs.Door.{door, chunkSizeSet, setChunkSize, setLimit, resizeFile, write}
 
 -- a volume that fits and is good is sound when it is laid out
 pub laid-sound : (v : Volume) → Fits v → Good v → Sound (laid v)
@@ -134,3 +136,7 @@ limit-sound n m l b h = door-sound (Limits.setLimit n m) (limit-kept n m) l b h
 pub resize-sound : (n size : ℕ) (l : List ℕ) → Bytes l → Sound l → Sound (resizeFile n size l .bytes)
 unfolding resizeFile
 resize-sound n size l b h = door-sound (Resize.resize n size) (resize-kept n size) l b h
+
+pub write-sound : (n offset : ℕ) (bs l : List ℕ) → Bytes l → Sound l → Sound (write n offset bs l .bytes)
+unfolding write
+write-sound n offset bs l b h = door-sound (Write.write n offset bs) (write-kept n offset bs) l b h

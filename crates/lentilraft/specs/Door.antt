@@ -15,6 +15,7 @@ use Rattle.volume.specs.Steps.{Step}
 use Rattle.soundness.specs.Check.{sound}
 use Rattle.chunks.specs.Limits as Limits
 use Rattle.chunks.specs.Read as Read
+use Rattle.chunks.specs.Write as Write
 use Rattle.chunks.specs.Resize as Resize
 
 unfoldable pub door : List ℕ → (Volume → Step) → Outcome
@@ -37,6 +38,9 @@ setLimit n limit l = door l (Limits.setLimit n limit)
 
 unfoldable pub resizeFile : ℕ → ℕ → List ℕ → Outcome
 resizeFile n size l = door l (Resize.resize n size)
+
+unfoldable pub write : ℕ → ℕ → List ℕ → List ℕ → Outcome
+write n offset bs l = door l (Write.write n offset bs)
 
 -- a call that reads a volume into a buffer: the outcome is the answer and the buffer's bytes
 unfoldable pub doorInto : List ℕ → List ℕ → (Volume → List ℕ → Outcome) → Outcome

@@ -7,7 +7,7 @@ use types::Error;
 use types::Limit;
 ghost use mathlib.Core.Path.{_≡_};
 ghost use Rattle.types.specs.Outcomes.{outcome};
-ghost use Rattle.lentilraft.specs.Door.{check, setChunkSize, setLimit, read, resizeFile};
+ghost use Rattle.lentilraft.specs.Door.{check, setChunkSize, setLimit, read, resizeFile, write};
 ghost use Rattle.lentilraft.specs.Report.{report};
 
 // The least room for a report.
@@ -75,4 +75,14 @@ pub fn resize_file(volume: &mut [u8], node: u64, size: u64) -> Answer
     }
     let layout = volume::read_layout(volume);
     chunks::resize_file(volume, layout, node, size)
+}
+
+pub fn write(volume: &mut [u8], node: u64, offset: u64, bytes: &[u8]) -> Answer
+    ensures { λ r. ⌜ outcome r (now (volume .exit)) ≡ write node offset (now (bytes .entry)) (now (volume .entry)) ⌝ }
+{
+    if !soundness::sound(volume) {
+        return Answer::Refused(Error::UnsoundMemory);
+    }
+    let layout = volume::read_layout(volume);
+    chunks::write(volume, layout, node, offset, bytes)
 }

@@ -6,7 +6,7 @@ ghost use Rattle.types.specs.declared.Limit.the-variants.{Unlimited, AtMost};
 ghost use Rattle.types.specs.Answers.{number, value};
 ghost use Rattle.allocator.specs.Opening.{opened};
 ghost use Rattle.volume.specs.Fresh.{newVolume};
-ghost use Rattle.lentilraft.specs.Door.{check, setChunkSize, setLimit, read, resizeFile};
+ghost use Rattle.lentilraft.specs.Door.{check, setChunkSize, setLimit, read, resizeFile, write};
 ghost use Rattle.lentilraft.specs.Report.{report};
 
 #[no_mangle]
@@ -87,4 +87,19 @@ pub extern "C" fn lentilraft_resize_file(volume: &mut [u8], node: u64, size: u64
     ensures { λ r. ⌜ (r ≡ number (resizeFile node size (now (volume .entry)) .answer)) × (now (volume .exit) ≡ resizeFile node size (now (volume .entry)) .bytes) ⌝ }
 {
     types::number(lentilraft::resize_file(volume, node, size))
+}
+
+#[no_mangle]
+pub extern "C" fn lentilraft_write(
+    volume: &mut [u8],
+    node: u64,
+    offset: u64,
+    bytes: &[u8],
+    count: &mut u64,
+) -> u32
+    ensures { λ r. ⌜ (r ≡ number (write node offset (now (bytes .entry)) (now (volume .entry)) .answer)) × (now (volume .exit) ≡ write node offset (now (bytes .entry)) (now (volume .entry)) .bytes) × (now (count .exit) ≡ value (write node offset (now (bytes .entry)) (now (volume .entry)) .answer)) ⌝ }
+{
+    let answer = lentilraft::write(volume, node, offset, bytes);
+    *count = types::value(answer);
+    types::number(answer)
 }
