@@ -122,7 +122,8 @@ allocate-lined a l = go (eqb (a .freeCount) 0) (says-eqb (a .freeCount) 0)
     go true (holds e) = rw (takes-new a e) (lined-next (a .chunkSize) (a .nextPtr) l)
     go false (fails e) = rw (takes-last a e) l
 
-freed-words : (a : Allocator) (p : ℕ) → a .freeCount < length (a .words) → free (release p a) ≡ free a ++ (p ∷ [])
+-- a pointer freed comes behind the others
+pub freed-words : (a : Allocator) (p : ℕ) → a .freeCount < length (a .words) → free (release p a) ≡ free a ++ (p ∷ [])
 unfolding free release
 freed-words a p h = rw (add-one (a .freeCount)) (take-suc-set (a .words) (a .freeCount) p h)
 

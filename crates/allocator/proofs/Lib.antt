@@ -3,3 +3,4 @@ pub mod Laid
 pub mod Steps
 pub mod Opened
 pub mod Accounts
+pub mod Counted

@@ -9,6 +9,8 @@ pub mod Changing
 pub mod Given
 pub mod Limited
 pub mod Stored
+pub mod Fills
+pub mod Puts
 pub mod Allocated
 pub mod RowPlaces
 pub mod TakenChunk
@@ -22,3 +24,14 @@ pub mod SizeSet
 pub mod WriteKept
 pub mod PosixWrite
 pub mod HoleCount
+pub mod BoundaryRows
+pub mod Only
+pub mod Released
+pub mod Cut
+pub mod Runs
+pub mod Freeing
+pub mod ShrunkBytes
+pub mod Resizes
+pub mod ResizeKept
+pub mod Takes
+pub mod OneChunk

@@ -6,3 +6,4 @@ pub mod Write
 pub mod Resize
 pub mod Stored
 pub mod Posix
+pub mod Boundary

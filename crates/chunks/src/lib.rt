@@ -1,6 +1,11 @@
 // Files of a sound volume: their bytes read, written, cut and extended, chunk by chunk, and their limits.
+mod cutting;
 mod limits;
 mod reading;
+mod resizing;
+mod rows;
+mod writing;
 
 pub use limits::set_limit;
 pub use reading::read;
+pub use resizing::resize_file;

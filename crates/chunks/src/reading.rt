@@ -1,4 +1,5 @@
 // Reading. Rows are found by halving once and then followed in order; a hole gives zeros.
+use crate::rows::is_row;
 use tables::Found;
 use types::Answer;
 use types::Error;
@@ -6,14 +7,12 @@ use volume::Layout;
 ghost use mathlib.Core.Path.{_≡_};
 ghost use Prim.Native.Nat.{ℕ, _+_, _-_, _/_, _%_, min, _≤_, _<_};
 ghost use lib.ListN.{length};
-ghost use lib.Dec.{ltb};
-ghost use Rattle.words.specs.Rule.{both};
 ghost use Rattle.words.specs.Table.{lead, Asc};
 ghost use Rattle.types.specs.Outcomes.{outcome};
 ghost use Rattle.volume.specs.Volume.{shown};
 ghost use Rattle.volume.specs.Search.{chunkUnder};
 ghost use Rattle.volume.specs.Sound.{chunkBefore, Good};
-ghost use Rattle.tables.specs.Tables.{Ready, chunkAt, isChunk};
+ghost use Rattle.tables.specs.Tables.{Ready, chunkAt};
 ghost use Rattle.chunks.specs.Content.{bytesFrom};
 ghost use Rattle.chunks.specs.Read.{readCount};
 ghost use Rattle.chunks.specs.Read.{read as Read·read};
@@ -28,21 +27,6 @@ fn piece_size(at: u64, size: u64, left: usize) -> usize
         return left;
     }
     rest
-}
-
-// Whether a row of the chunk table is there and is the row of a node's chunk.
-fn is_row(volume: &[u8], layout: Layout, row: usize, node: u64, index: u64) -> bool
-    requires { ⌜ Ready (now volume) layout ⌝ }
-    ensures { λ r. ⌜ r ≡ both (ltb row (length (shown (now (volume .entry)) .chunks))) (isChunk node index (chunkAt (shown (now (volume .entry)) .chunks) row)) ⌝ }
-{
-    if tables::chunks_used(volume, layout) <= row {
-        return false;
-    }
-    let chunk = tables::chunk_row(volume, layout, row);
-    if chunk.node != node {
-        return false;
-    }
-    chunk.index == index
 }
 
 // Reads bytes of one chunk, from byte at of the file on. Its row, if it has one, is the row given. Answers where the next chunk's row is.

@@ -15,6 +15,8 @@ use Rattle.types.specs.declared.Error.the-variants.{UnsoundMemory, OutputTooSho
 use Rattle.types.specs.Outcomes.{Outcome, outcome}
 use Rattle.volume.specs.declared.Layout.{Layout}
 use Rattle.volume.specs.Volume.{Volume, shown, laid}
+use Rattle.allocator.specs.Opening.{opened}
+use Rattle.volume.specs.Fresh.{newVolume}
 use Rattle.volume.specs.Steps.{Step}
 use Rattle.volume.specs.Geometry.{layoutOf}
 use Rattle.volume.specs.Framed.{Headed}
@@ -85,6 +87,12 @@ module _ (l buffer : List ℕ) (call : Volume → List ℕ → Outcome) where
 -- a promise is one equation: what the call gives back and leaves equals what its definition says. Any two outcomes that it permits are equal.
 pub one-outcome : {A : Type 0} (said : A) (one two : A) → one ≡ said → two ≡ said → one ≡ two
 one-outcome said one two p q = p ∙ sym q
+
+pub one-new-volume : (n e c s : ℕ) (l : List ℕ) (a b : Outcome) → a ≡ newVolume n e c s l → b ≡ newVolume n e c s l → a ≡ b
+one-new-volume n e c s l a b = one-outcome (newVolume n e c s l) a b
+
+pub one-open : (l : List ℕ) (a b : Outcome) → a ≡ opened l → b ≡ opened l → a ≡ b
+one-open l a b = one-outcome (opened l) a b
 
 pub one-check : (l : List ℕ) (a b : Answer) → a ≡ check l → b ≡ check l → a ≡ b
 one-check l a b = one-outcome (check l) a b

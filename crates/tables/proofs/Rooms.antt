@@ -11,13 +11,14 @@ use Rattle.types.specs.declared.NodeRecord.{NodeRecord}
 use Rattle.volume.specs.declared.Layout.{Layout}
 use Rattle.volume.specs.declared.ChunkRow.{ChunkRow}
 use Rattle.volume.specs.Rows.{readNode, readEntry, readChunk, layEntry}
-use Rattle.volume.specs.Volume.{shown, atNodes, atEntries, atChunks, atBytes}
+use Rattle.volume.specs.Volume.{Volume, shown, laid, atNodes, atEntries, atChunks, atBytes}
 use Rattle.volume.proofs.RowLaws.{node-at, entry-formed}
 use Rattle.words.proofs.Order.{each-at}
 use Rattle.types.specs.Sizes.{nameRoom}
-use Rattle.volume.specs.Framed.{EntryFits}
-use Rattle.volume.proofs.Laid.{spaced, entry-laid}
-use Rattle.tables.specs.Tables.{Ready, nodeAt, entryAt, chunkAt}
+use Rattle.volume.specs.Framed.{EntryFits, Fits}
+use Rattle.volume.proofs.Laid.{spaced, entry-laid, shown-laid}
+use Rattle.volume.proofs.Frames.{formed-laid}
+use Rattle.tables.specs.Tables.{Ready, layoutAt, nodeAt, entryAt, chunkAt}
 
 -- what omega needs
 pub record Rooms (l : List ℕ) (y : Layout) : Type 0 where
@@ -111,3 +112,8 @@ module _ (l : List ℕ) (y : Layout) (r : Ready l y) (i : ℕ) {at : ℕ} (h : i
 pub area-long : (l : List ℕ) (y : Layout) (r : Ready l y) → length l - y .bytes ≡ length (shown l .bytes)
 unfolding shown
 area-long l y r = rw (rooms l y r .bytes) (sym (length-drop (atBytes (word l 8) (word l 16) (word l 24)) l))
+
+-- ---- a volume that fits, laid out
+
+pub ready-laid : (w : Volume) → Fits w → Ready (laid w) (layoutAt w)
+ready-laid w f = record { formed = formed-laid w f; layout = ap layoutAt (sym (shown-laid w f)) }

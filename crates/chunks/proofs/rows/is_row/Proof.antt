@@ -1,6 +1,6 @@
 use borrow.Author.Needs.{needs}
-use Rattle.chunks.proofs.reading.is_row.Statement.{statement}
-use Rattle.chunks.proofs.reading.is_row.Tie as tie
+use Rattle.chunks.proofs.rows.is_row.Statement.{statement}
+use Rattle.chunks.proofs.rows.is_row.Tie as tie
 use denote.Ref.{now}
 use Rattle.volume.specs.Volume.{shown}
 use Rattle.chunks.proofs.Cursor.{test-past, test-node, test-index}

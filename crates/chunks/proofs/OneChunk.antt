@@ -1,0 +1,94 @@
+-- What falls into one chunk, written: into the chunk that is there, or into a chunk taken. The row of the next index is the next row.
+-- Assumes nothing.
+use mathlib.Core.Path.{_≡_, refl, sym, ap, _∙_}
+use mathlib.Core.Bool.{Bool, true, false}
+use mathlib.Core.List.{List}
+use mathlib.Core.Option.{none, some}
+use Prim.Native.Nat.{ℕ, _+_, _-_, _*_, _≤_, _<_}
+use native.Mathlib.Omega.{arith}
+use lib.Dec.{ltb}
+use lib.ListN.{length, take, drop}
+use Rattle.words.specs.Bytes.{part, over}
+use Rattle.words.specs.Rule.{both}
+use Rattle.words.specs.Table.{lead}
+use Rattle.allocator.specs.Allocator.{allocate}
+use Rattle.volume.specs.declared.ChunkRow.{ChunkRow}
+use Rattle.volume.specs.Search.{chunkUnder}
+use Rattle.volume.specs.Volume.{Volume, laid, withBytes}
+use Rattle.tables.specs.Tables.{chunkAt, isChunk}
+use Rattle.chunks.specs.Content.{chunk}
+use Rattle.chunks.specs.Store.{room, hole, taken, ensured, ensuredFor, lowOf, highOf, pieceOf, put, writeChunk}
+use Rattle.chunks.specs.Stored.{Stored}
+use Rattle.chunks.proofs.Cursor.{row-yes, row-no}
+use Rattle.chunks.proofs.KeptFields.{kept-taken}
+use Rattle.chunks.proofs.Pieces.{length-lent}
+use Rattle.chunks.proofs.PutPiece.{Touched, put-is}
+use Rattle.chunks.proofs.RowPlaces.{row-inside-found}
+use Rattle.chunks.proofs.TakenChunk.{newRow, taken-here, taken-stored}
+
+-- the part of the bytes that is lent, as a part
+lent-piece : (s offset : ℕ) (bs : List ℕ) (k : ℕ) {start count : ℕ} → start ≡ lowOf s offset k - offset → count ≡ highOf s offset (length bs) k - lowOf s offset k → take (start + count - start) (drop start bs) ≡ pieceOf s offset bs k
+lent-piece s offset bs k {start} {count} e f =
+    let w : start + count - start ≡ count = omega arith in
+    rw (w, e, f) (unfold part in refl)
+
+-- where the piece lies
+abbrev pub Cut : ℕ → ℕ → ℕ → ℕ → ℕ → ℕ → ℕ → Type 0
+Cut s offset len k place start count = (place ≡ lowOf s offset k - k * s) × (start ≡ lowOf s offset k - offset) × (count ≡ highOf s offset len k - lowOf s offset k)
+
+module _ (v : Volume) (st : Stored v) (n offset : ℕ) (bs : List ℕ) (k row : ℕ) (at : row ≡ lead (chunkUnder n k) (v .chunks)) (t : Touched (v .allocator .chunkSize) offset (length bs) k) {s place start count : ℕ}
+    (size : (s ≡ v .allocator .chunkSize) × (0 < s) × (s ≤ 65536)) (cut : Cut s offset (length bs) k place start count) where
+  abbrev S : ℕ
+  S = v .allocator .chunkSize
+
+  cut-there : Cut S offset (length bs) k place start count
+  cut-there = rw (size .0) at cut
+
+  pub piece-ends : start + count ≤ length bs
+  piece-ends = omega (arith, cut-there, t .before, t .behind)
+
+  abbrev lent : List ℕ
+  lent = take (start + count - start) (drop start bs)
+
+  pub piece-room : place + length lent ≤ S
+  piece-room = rw (length-lent bs start count piece-ends) (omega (arith, cut-there, t .before, t .behind))
+
+  module _ {b : Bool} (hit : b ≡ both (ltb row (length (v .chunks))) (isChunk n k (chunkAt (v .chunks) row))) where
+    -- there is a row
+    module _ (e : b ≡ true) where
+      its-row : (row < length (v .chunks)) × (chunk n k (v .chunks) ≡ some (chunkAt (v .chunks) row))
+      its-row = let h = row-yes n k (v .chunks) (st .order) at (sym hit ∙ e) in (h .0, h .1 .0)
+
+      pub row-there : row < length (v .chunks)
+      row-there = its-row .0
+
+      module _ {c : ChunkRow} (q : c ≡ chunkAt (v .chunks) row) where
+        found : chunk n k (v .chunks) ≡ some c
+        found = its-row .1 ∙ ap some (sym q)
+
+        pub row-inside : c .pointer + S ≤ length (v .bytes)
+        row-inside = row-inside-found v st n k c found
+
+        pub piece-written : {m : List ℕ} → m ≡ laid (withBytes (over (v .bytes) (c .pointer + place) lent) v) → m ≡ laid (writeChunk n offset bs k v)
+        unfolding writeChunk ensured ensuredFor
+        piece-written {m} w =
+            let a : withBytes (over (v .bytes) (c .pointer + place) lent) v ≡ put n offset bs k v = rw (put-is v st n offset bs k t c found, lent-piece S offset bs k (cut-there .1) (cut-there .2), cut-there .0) in
+            w ∙ rw found (ap laid a)
+
+    -- there is none
+    module _ (e : b ≡ false) where
+      pub row-missing : chunk n k (v .chunks) ≡ none
+      row-missing = row-no n k (v .chunks) (st .order) at (sym hit ∙ e) .0
+
+      module _ (enough : hole (chunk n k (v .chunks)) ≤ room v) where
+        pub room-there : 1 ≤ room v
+        room-there = rw row-missing at enough
+
+        pub chunk-written : {m : List ℕ} → m ≡ laid (withBytes (over (taken n k v .bytes) (allocate (v .allocator) .pointer + place) lent) (taken n k v)) → m ≡ laid (writeChunk n offset bs k v)
+        unfolding writeChunk ensured ensuredFor
+        chunk-written {m} w =
+            let z = kept-taken n k v .rest .size in
+            let u : Touched (taken n k v .allocator .chunkSize) offset (length bs) k = rw z t in
+            let p = put-is (taken n k v) (taken-stored v st room-there n k row-missing) n offset bs k u (newRow n k v) (taken-here v st room-there n k row-missing) in
+            let a : withBytes (over (taken n k v .bytes) (allocate (v .allocator) .pointer + place) lent) (taken n k v) ≡ put n offset bs k (taken n k v) = rw (p, z, lent-piece S offset bs k (cut-there .1) (cut-there .2), cut-there .0) in
+            w ∙ rw row-missing (ap laid a)

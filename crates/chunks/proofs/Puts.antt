@@ -1,0 +1,43 @@
+-- One chunk written: its bytes as the part of the volume that is lent, and what the writes make of the volume.
+-- Assumes nothing.
+use mathlib.Core.Path.{_≡_, refl, sym, ap, _∙_}
+use mathlib.Core.List.{List, _++_}
+use Prim.Native.Nat.{ℕ, _+_, _-_, _≤_, _<_}
+use native.Mathlib.Omega.{arith}
+use lib.ListN.{length, take, drop}
+use Rattle.words.specs.Bytes.{part, over}
+use Rattle.words.proofs.Parts.{length-part, length-over, lent-at}
+use Rattle.volume.specs.declared.Layout.{Layout}
+use Rattle.volume.specs.Volume.{shown, laid, atBytes, withBytes}
+use Rattle.volume.proofs.Laid.{spaced}
+use Rattle.volume.proofs.Lens.{onto, write-bytes}
+use Rattle.tables.specs.Tables.{Ready}
+use Rattle.tables.proofs.Rooms.{rooms, area-long}
+use Rattle.chunks.proofs.Fills.{part-written}
+use Rattle.chunks.proofs.Pieces.{area-lent}
+
+module _ (l : List ℕ) (y : Layout) (r : Ready l y) (p : ℕ) {s : ℕ} (size : (s ≡ shown l .allocator .chunkSize) × (0 < s) × (s ≤ 65536)) (inside : p + shown l .allocator .chunkSize ≤ length (shown l .bytes)) where
+  -- a chunk ends in the volume
+  pub chunk-ends : y .bytes + p + s ≤ length l
+  chunk-ends = omega (arith, size .0, area-long l y r, rooms l y r)
+
+  bytes-at : y .bytes ≡ atBytes (shown l .nodeRoom) (shown l .entryRoom) (shown l .chunkRoom)
+  bytes-at = ap (λ z. z .bytes) (r .layout)
+
+  -- all its bytes written
+  pub chunk-put : (bs : List ℕ) → length bs ≡ s → {ys : List ℕ} → ys ≡ bs → take (y .bytes + p) l ++ (ys ++ drop (y .bytes + p + s - (y .bytes + p)) (drop (y .bytes + p) l)) ≡ laid (withBytes (over (shown l .bytes) p bs) (shown l))
+  chunk-put bs n {ys} e =
+      let w : y .bytes + p ≡ atBytes (shown l .nodeRoom) (shown l .entryRoom) (shown l .chunkRoom) + p = omega (arith, bytes-at) in
+      lent-at l (y .bytes + p) s ys bs e n
+      ∙ onto (laid (shown l)) (y .bytes + p) bs (sym (r .formed .same)) refl (write-bytes (shown l) (spaced (shown l) (r .formed .fits)) p (y .bytes + p) bs (omega (arith, size .0)) w)
+
+  -- bytes written at a place of it
+  pub piece-put : (place : ℕ) (bs : List ℕ) → place + length bs ≤ shown l .allocator .chunkSize → {ys : List ℕ} → ys ≡ over (take (y .bytes + p + s - (y .bytes + p)) (drop (y .bytes + p) l)) place bs
+      → take (y .bytes + p) l ++ (ys ++ drop (y .bytes + p + s - (y .bytes + p)) (drop (y .bytes + p) l)) ≡ laid (withBytes (over (shown l .bytes) (p + place) bs) (shown l))
+  piece-put place bs h {ys} e =
+      let q = part (shown l .bytes) p s in
+      let n : length q ≡ s = length-part (shown l .bytes) p s (omega (arith, size .0)) in
+      let k : place + length bs ≤ s = omega (arith, size .0) in
+      let m : length (over q place bs) ≡ s = length-over q place bs (omega arith) ∙ n in
+      chunk-put (over q place bs) m (e ∙ ap (λ (x : List ℕ). over x place bs) (area-lent l y r p s))
+      ∙ ap (λ (x : List ℕ). laid (withBytes x (shown l))) (part-written (shown l .bytes) p s place bs (omega (arith, size .0)) k)
