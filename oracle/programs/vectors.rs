@@ -3,13 +3,14 @@
 
 mod vectors {
     pub mod allocator;
+    pub mod files;
     pub mod generator;
     pub mod lists;
     pub mod paths;
 }
 
 use std::{io, path::Path};
-use vectors::{allocator, generator::Generator, lists, paths};
+use vectors::{allocator, files, generator::Generator, lists, paths};
 
 fn main() -> io::Result<()> {
     oracle::caught::silence();
@@ -29,12 +30,16 @@ fn fixed(crates: &Path) -> io::Result<()> {
     let runs = allocator::fixed(&mut Generator::new(1));
     lists::write_one(&crates.join("allocator_vectors"), &runs, allocator::summary)?;
     let paths = paths::fixed(&mut Generator::new(2));
-    lists::write_one(&crates.join("path_vectors"), &paths, paths::summary)
+    lists::write_one(&crates.join("path_vectors"), &paths, paths::summary)?;
+    let runs = files::fixed(&mut Generator::new(5));
+    lists::write_one(&crates.join("file_vectors"), &runs, files::summary)
 }
 
 fn bulk(folder: &Path) -> io::Result<()> {
     let runs = allocator::bulk(&mut Generator::new(3));
     lists::write_many(folder, "allocator_vectors", &runs, allocator::summary)?;
     let paths = paths::bulk(&mut Generator::new(4));
-    lists::write_many(folder, "path_vectors", &paths, paths::summary)
+    lists::write_many(folder, "path_vectors", &paths, paths::summary)?;
+    let runs = files::bulk(&mut Generator::new(6));
+    lists::write_many(folder, "file_vectors", &runs, files::summary)
 }

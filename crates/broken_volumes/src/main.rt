@@ -48,7 +48,7 @@ fn step(text: &[u8], at: usize, volume: &mut [u8], memory: &mut [u8]) -> usize
     let first = vectors::number(text, at);
     if first.value == VOLUME {
         words::clear(volume, 0, volume.len());
-        return lay_runs(text, first.next, volume);
+        return vectors::lay_runs(text, first.next, volume);
     }
     if first.value == CASE {
         return run(text, first.next, volume, memory);
@@ -76,59 +76,11 @@ fn break_copy(text: &[u8], at: usize, volume: &[u8], memory: &mut [u8]) -> usize
     ensures { λ r. ⌜ (at ≤ r) × (r ≤ length (now (text .entry))) ⌝ }
 {
     words::copy(memory, 0, volume);
-    let label = lay_runs(text, at, memory);
+    let label = vectors::lay_runs(text, at, memory);
     let end = end_of_line(text, label);
     judge(memory);
     print_label(&text[label..end]);
     end
-}
-
-// Runs of words, their number first.
-fn lay_runs(text: &[u8], at: usize, memory: &mut [u8]) -> usize
-    requires { ⌜ at ≤ length (now text) ⌝ }
-    ensures { λ r. ⌜ (at ≤ r) × (r ≤ length (now (text .entry))) × (length (now (memory .exit)) ≡ length (now (memory .entry))) ⌝ }
-{
-    let runs = vectors::number(text, at);
-    let mut next = runs.next;
-    let mut left = runs.value;
-    while 0 < left {
-        next = lay_run(text, next, memory);
-        left -= 1;
-    }
-    next
-}
-
-// A run: where it starts, how many words it has, and these.
-fn lay_run(text: &[u8], at: usize, memory: &mut [u8]) -> usize
-    requires { ⌜ at ≤ length (now text) ⌝ }
-    ensures { λ r. ⌜ (at ≤ r) × (r ≤ length (now (text .entry))) × (length (now (memory .exit)) ≡ length (now (memory .entry))) ⌝ }
-{
-    let start = vectors::number(text, at);
-    let count = vectors::number(text, start.next);
-    let mut next = count.next;
-    let mut to = start.value as usize;
-    let mut left = count.value;
-    while 0 < left {
-        let word = vectors::number(text, next);
-        to = put_word(memory, to, word.value);
-        next = word.next;
-        left -= 1;
-    }
-    next
-}
-
-// Answers where the word behind it stands. One that does not fit is dropped: the checksum shows it.
-fn put_word(memory: &mut [u8], at: usize, value: u64) -> usize
-    ensures { λ _. ⌜ length (now (memory .exit)) ≡ length (now (memory .entry)) ⌝ }
-{
-    if memory.len() < types::WORD {
-        return at;
-    }
-    if memory.len() - types::WORD < at {
-        return at;
-    }
-    words::put64(memory, at, value);
-    at + types::WORD
 }
 
 // The index of the first end of a line at or after index at, or the end of the text.

@@ -1,8 +1,10 @@
-// Test vectors: numbers read from text, and a checksum to tell many bytes by.
+// Test vectors: numbers read from text, bytes laid out from them, and a checksum to tell many bytes by.
 // Text holds numbers in lower-case hexadecimal, with any other bytes between them.
+mod lay;
 mod scan;
 mod sum;
 
+pub use lay::lay_runs;
 pub use scan::Scan;
 pub use scan::number;
 pub use scan::numbers;

@@ -165,6 +165,7 @@ fn run(generator: &mut Generator, words: &[u64], most: u64, tally: &mut Tally) -
     Item {
         lines,
         count: steps,
+        ..Item::default()
     }
 }
 

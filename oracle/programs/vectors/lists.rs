@@ -6,9 +6,12 @@ use std::{fs, io, path::Path};
 const MAX_FILE_BYTES: usize = 700_000;
 const END: &str = "0\n";
 
-/// One allocator run or one path.
+/// One run or one path.
+#[derive(Default)]
 pub struct Item {
     pub lines: String,
+    /// What the program prints for it, where that is more than a sum of counts.
+    pub answers: String,
     /// The steps of a run; 1 for a refused path, 0 for another.
     pub count: usize,
 }

@@ -77,6 +77,7 @@ fn item(path: &str) -> Option<Item> {
     Some(Item {
         lines: spelled(numbers) + "\n",
         count: rust.is_err() as usize,
+        ..Item::default()
     })
 }
 
