@@ -253,6 +253,7 @@ pub fn write(volume: &mut [u8], layout: Layout, node: u64, offset: u64, bytes: &
         return Answer::Refused(Error::NoChunkRoom);
     }
     write_chunks_v2(volume, layout, node, offset, bytes);
-    tables::set_size(volume, layout, i, greater(row.size, offset + count));
+    let end = offset + count;
+    tables::set_size(volume, layout, i, greater(row.size, end));
     Answer::Done(count)
 }

@@ -70,9 +70,9 @@ write-chunks-v2-requires : tie.Need-write-chunks-v2-requires
 write-chunks-v2-requires c κs =
     chunks-asked (c .before .before .before .before .before .before .before .before .before .before .before .before .before .before .before .before .before .before .before .args .node) (c .before .before .before .before .before .before .before .before .before .before .before .before .before .before .before .before .before .before .before .args .offset) (now (c .before .before .before .before .before .before .before .before .before .before .before .before .before .before .before .before .before .before .before .args .bytes)) (now (c .before .before .before .before .before .before .before .before .before .before .before .before .before .before .before .before .before .before .before .args .volume)) (c .before .before .before .before .before .before .before .before .before .before .before .before .before .before .before .before .before .before .before .args .layout) (c .before .before .before .before .before .before .before .before .before .before .before .before .before .before .before .before .before .before .before .pre .0) (c .before .before .before .before .before .before .before .before .before .before .before .before .before .before .before .before .before .before .before .pre .1) (c .before .before .before .before .before .before .before .before .before .before .before .before .before .found .given .1) (c .before .before .before .before .before .before .before .before .before .before .before .before .before .before .before .find-node .ensures) (c .before .before .before .before .before .before .before .before .before .before .node-row .ensures) (c .before .before .before .before .before .before .before .before .before .is-directory .ensures) (c .before .before .before .before .before .before .before .before .if1 .left) (c .before .before .before .before .before .before .before .if2 .left) (c .before .before .before .before .before .before .file-limit .ensures) (c .before .before .before .before .before .exceeds .ensures) (c .before .before .before .before .if3 .left) (c .before .before .is-cramped .ensures) (c .before .if4 .left)
 
-add-greater : tie.Need-add-greater
-add-greater c =
-    omega (arith, chunks-asked (c .before .before .before .before .before .before .before .before .before .before .before .before .before .before .before .before .before .before .before .before .before .before .before .args .node) (c .before .before .before .before .before .before .before .before .before .before .before .before .before .before .before .before .before .before .before .before .before .before .before .args .offset) (now (c .before .before .before .before .before .before .before .before .before .before .before .before .before .before .before .before .before .before .before .before .before .before .before .args .bytes)) (now (c .before .before .before .before .before .before .before .before .before .before .before .before .before .before .before .before .before .before .before .before .before .before .before .args .volume)) (c .before .before .before .before .before .before .before .before .before .before .before .before .before .before .before .before .before .before .before .before .before .before .before .args .layout) (c .before .before .before .before .before .before .before .before .before .before .before .before .before .before .before .before .before .before .before .before .before .before .before .pre .0) (c .before .before .before .before .before .before .before .before .before .before .before .before .before .before .before .before .before .before .before .before .before .before .before .pre .1) (c .before .before .before .before .before .before .before .before .before .before .before .before .before .before .before .before .before .found .given .1) (c .before .before .before .before .before .before .before .before .before .before .before .before .before .before .before .before .before .before .before .find-node .ensures) (c .before .before .before .before .before .before .before .before .before .before .before .before .before .before .node-row .ensures) (c .before .before .before .before .before .before .before .before .before .before .before .before .before .is-directory .ensures) (c .before .before .before .before .before .before .before .before .before .before .before .before .if1 .left) (c .before .before .before .before .before .before .before .before .before .before .before .if2 .left) (c .before .before .before .before .before .before .before .before .before .before .file-limit .ensures) (c .before .before .before .before .before .before .before .before .before .exceeds .ensures) (c .before .before .before .before .before .before .before .before .if3 .left) (c .before .before .before .before .before .before .is-cramped .ensures) (c .before .before .before .before .before .if4 .left) .3)
+add-end : tie.Need-add-end
+add-end c =
+    omega (arith, chunks-asked (c .before .before .before .before .before .before .before .before .before .before .before .before .before .before .before .before .before .before .before .before .before .before .args .node) (c .before .before .before .before .before .before .before .before .before .before .before .before .before .before .before .before .before .before .before .before .before .before .args .offset) (now (c .before .before .before .before .before .before .before .before .before .before .before .before .before .before .before .before .before .before .before .before .before .before .args .bytes)) (now (c .before .before .before .before .before .before .before .before .before .before .before .before .before .before .before .before .before .before .before .before .before .before .args .volume)) (c .before .before .before .before .before .before .before .before .before .before .before .before .before .before .before .before .before .before .before .before .before .before .args .layout) (c .before .before .before .before .before .before .before .before .before .before .before .before .before .before .before .before .before .before .before .before .before .before .pre .0) (c .before .before .before .before .before .before .before .before .before .before .before .before .before .before .before .before .before .before .before .before .before .before .pre .1) (c .before .before .before .before .before .before .before .before .before .before .before .before .before .before .before .before .found .given .1) (c .before .before .before .before .before .before .before .before .before .before .before .before .before .before .before .before .before .before .find-node .ensures) (c .before .before .before .before .before .before .before .before .before .before .before .before .before .node-row .ensures) (c .before .before .before .before .before .before .before .before .before .before .before .before .is-directory .ensures) (c .before .before .before .before .before .before .before .before .before .before .before .if1 .left) (c .before .before .before .before .before .before .before .before .before .before .if2 .left) (c .before .before .before .before .before .before .before .before .before .file-limit .ensures) (c .before .before .before .before .before .before .before .before .exceeds .ensures) (c .before .before .before .before .before .before .before .if3 .left) (c .before .before .before .before .before .is-cramped .ensures) (c .before .before .before .before .if4 .left) .3)
 
 greater-requires : tie.Need-greater-requires
 greater-requires c κs = search needs
@@ -111,7 +111,7 @@ write-spec =
     same-length-5
     returns-5
     write-chunks-v2-requires
-    add-greater
+    add-end
     greater-requires
     set-size-requires
     same-length-6
