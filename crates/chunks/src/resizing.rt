@@ -95,7 +95,7 @@ fn is_cramped(volume: &[u8], layout: Layout, node: u64, end: u64) -> bool
 }
 
 // Frees the chunks behind byte end, then zeroes the last one from there on.
-fn shrink(volume: &mut [u8], layout: Layout, node: u64, end: u64)
+fn resize_file_internal(volume: &mut [u8], layout: Layout, node: u64, end: u64)
     requires { ⌜ Ready (now volume) layout × Good (shown (now volume)) × (end ≤ 1099511627776) × (cramped node end (shown (now volume)) ≡ false) ⌝ }
     ensures { λ _. ⌜ now (volume .exit) ≡ laid (shrunk node end (shown (now (volume .entry)))) ⌝ }
 {
@@ -128,7 +128,7 @@ pub fn resize_file(volume: &mut [u8], layout: Layout, node: u64, size: u64) -> A
     if is_cramped(volume, layout, node, size) {
         return Answer::Refused(Error::NoChunkRoom);
     }
-    shrink(volume, layout, node, size);
+    resize_file_internal(volume, layout, node, size);
     tables::set_size(volume, layout, i, size);
     Answer::Done(0)
 }

@@ -1,6 +1,6 @@
 use borrow.Author.Needs.{needs}
-use Rattle.chunks.proofs.resizing.shrink.Statement.{statement}
-use Rattle.chunks.proofs.resizing.shrink.Tie as tie
+use Rattle.chunks.proofs.resizing.resize_file_internal.Statement.{statement}
+use Rattle.chunks.proofs.resizing.resize_file_internal.Tie as tie
 use Rattle.chunks.proofs.Resizes.{zero-asked, shrink-done}
 use denote.Ref.{now}
 
@@ -24,8 +24,8 @@ returns : tie.Need-returns
 returns c =
     shrink-done (now (c .before .before .before .before .before .before .before .before .before .before .before .before .args .volume)) (c .before .before .before .before .before .before .before .before .before .before .before .before .args .layout) (c .before .before .before .before .before .before .before .before .before .before .before .before .pre .0) (c .before .before .before .before .before .before .before .before .before .before .before .before .pre .1) (c .before .before .before .before .before .before .before .before .before .before .before .before .args .node) (c .before .before .before .before .before .before .before .before .before .before .before .before .args .end) (c .before .before .before .before .before .before .before .before .before .before .before .before .pre .2) (c .before .before .before .before .before .before .before .before .before .before .before .before .pre .3) (c .before .before .before .before .before .before .before .before .before .chunk-size .ensures .0) (c .before .before .before .before .before .before .before .round-up .ensures .0) (c .before .before .before .before .before .before .cut-from .ensures) (c .before .before .zero-tail .ensures)
 
-pub shrink-spec : {M : Type 1} → statement M
-shrink-spec =
+pub resize-file-internal-spec : {M : Type 1} → statement M
+resize-file-internal-spec =
     tie.close
     (tie.spec
     chunk-size-requires
