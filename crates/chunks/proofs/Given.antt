@@ -1,13 +1,12 @@
 -- What a read gives: its two refusals, its count, and the bytes that tables and chunks show of the file.
 -- Assumes nothing.
-use mathlib.Core.Path.{_≡_, refl, sym, ap, _∙_}
+use mathlib.Core.Path.{_≡_, refl, ap, _∙_}
 use mathlib.Core.Bool.{Bool, true, false}
 use mathlib.Core.List.{List, [], _++_}
 use mathlib.Core.Option.{Option, none, some}
 use Prim.Native.Nat.{ℕ, _+_, _-_, _≤_, _<_}
 use native.Mathlib.Nat.{sub-zero, zero-add}
 use native.Mathlib.Omega.{arith}
-use denote.Enum.Declared.{tagOf}
 use lib.Dec.{eqb}
 use lib.ListN.{length, take, drop, getD, List·getD-append}
 use lib.Seq.{length-take-le, getD-append-add, getD-drop}
@@ -15,26 +14,27 @@ use Rattle.words.specs.Bytes.{over}
 use Rattle.words.specs.Rule.{pick}
 use Rattle.words.specs.Table.{Asc}
 use Rattle.words.proofs.Order.{each-at}
-use Rattle.words.proofs.Rules.{pick-true, pick-false}
+use Rattle.words.proofs.Rules.{pick-false}
 use Rattle.types.specs.Sizes.{mostSize}
 use Rattle.types.specs.Nodes.{kindByte}
 use Rattle.types.specs.Answers.{number, value}
 use Rattle.types.specs.Outcomes.{refused, done}
 use Rattle.types.specs.declared.NodeRecord.{NodeRecord}
-use Rattle.types.specs.declared.Error.the-variants.{NoSuchEntry, IsDirectory}
+use Rattle.types.specs.declared.Error.{Error}
+use Rattle.types.specs.declared.Error.the-variants.{IsDirectory}
 use Rattle.volume.specs.Rows.{readNode}
 use Rattle.volume.specs.Volume.{Volume}
 use Rattle.volume.specs.Framed.{NodeFits, Fits}
 use Rattle.volume.specs.Sound.{node, nodeBefore, NodeGood, Good}
-use Rattle.tables.specs.Tables.{nodeAt, foundNode}
-use Rattle.tables.specs.declared.Found.{Found}
-use Rattle.tables.specs.declared.Found.the-variants.{At, Nothing}
-use Rattle.tables.proofs.Found.{the-type}
-use Rattle.tables.proofs.Finds.{node-found, node-absent}
+use Rattle.tables.specs.Tables.{nodeAt}
+use Rattle.chunks.specs.declared.files.FileRow.{FileRow}
+use Rattle.chunks.specs.declared.files.FileRow.the-variants as row
+use Rattle.chunks.specs.Files.{fileFound}
 use Rattle.chunks.specs.Content.{byteAt, bytesFrom}
 use Rattle.chunks.specs.Read.{readCount, read, readFrom}
 use Rattle.chunks.proofs.Content.{length-from, from-at}
 use Rattle.chunks.proofs.Changed.{node-is}
+use Rattle.chunks.proofs.FoundFile.{File, file-found, file-refused}
 use Rattle.chunks.proofs.Changing.{limit-most}
 
 -- ---- sizes
@@ -50,38 +50,26 @@ size-most v g f i h =
 -- ---- the ends of a read
 
 module _ (n off : ℕ) (v : Volume) (buffer : List ℕ) where
-  pub no-node : Asc nodeBefore (v .nodes) → (r : Found) → tagOf the-type r ≡ 1 → r ≡ foundNode n (v .nodes) → refused NoSuchEntry buffer ≡ read n off v buffer
-  unfolding read readFrom node
-  no-node a (At i) t h = absurd (omega arith)
-  no-node a Nothing t h = rw (node-absent n (v .nodes) a h)
+  pub read-refused : Asc nodeBefore (v .nodes) → {r : FileRow} {e : Error} → r ≡ row.Refused e → r ≡ fileFound n (v .nodes) → refused e buffer ≡ read n off v buffer
+  unfolding read readFrom
+  read-refused a k h = file-refused (λ z. refused z buffer) (readFrom v off buffer) _ refl (λ z. refl) n v a k h
 
-  module _ {r : Found} {i : ℕ} (k : r ≡ At i) (h : r ≡ foundNode n (v .nodes)) where
-    pub row-found : (i < length (v .nodes)) × (node n v ≡ some (nodeAt (v .nodes) i))
-    unfolding node
-    row-found = node-found n (v .nodes) i (sym k ∙ h)
+  module _ {r : FileRow} {i : ℕ} (k : r ≡ row.At i) (h : r ≡ fileFound n (v .nodes)) {d : NodeRecord} (q : d ≡ nodeAt (v .nodes) i) {count : ℕ} (c : (count ≡ readCount (d .size) off (length buffer)) × (count ≤ length buffer)) where
+    its : File n v i d
+    its = file-found n v k h q
 
     -- no byte of the read lies past 2^64
-    pub read-ends : Good v → Fits v → off < 18446744073709551616 → {d : NodeRecord} {count : ℕ} → d ≡ nodeAt (v .nodes) i → (count ≡ readCount (d .size) off (length buffer)) × (count ≤ length buffer)
-        → off + length (take (count - 0) buffer) < 18446744073709551616
+    pub read-ends : Good v → Fits v → off < 18446744073709551616 → off + length (take (count - 0) buffer) < 18446744073709551616
     unfolding readCount
-    read-ends g f s {d} {count} q c =
-        let m : d .size ≤ mostSize = rw q (size-most v g f i (row-found .0)) in
+    read-ends g f s =
+        let m : d .size ≤ mostSize = rw q (size-most v g f i (its .place)) in
         rw (sub-zero, length-take-le count buffer (c .1)) (omega (arith, c .0))
 
-    module _ {d : NodeRecord} (q : d ≡ nodeAt (v .nodes) i) {b : Bool} (t : b ≡ eqb (kindByte (d .kind)) 0) where
-      its-node : node n v ≡ some d
-      its-node = row-found .1 ∙ ap some (sym q)
-
-      pub directory-read : b ≡ true → refused IsDirectory buffer ≡ read n off v buffer
-      unfolding read readFrom
-      directory-read e = rw its-node (pick-true _ _ _ _ (sym t ∙ e) refl)
-
-      pub file-read : b ≡ false → {count : ℕ} → (count ≡ readCount (d .size) off (length buffer)) × (count ≤ length buffer) → {ys : List ℕ} → ys ≡ bytesFrom v n off (length (take (count - 0) buffer))
-          → done count (ys ++ drop (count - 0) buffer) ≡ read n off v buffer
-      unfolding read readFrom over
-      file-read e {count} c {ys} y =
-          let w : ys ≡ bytesFrom v n off count = y ∙ ap (bytesFrom v n off) (rw sub-zero (length-take-le count buffer (c .1))) in
-          rw (its-node, node-is n v d its-node, ← c .0) (pick-false _ _ _ _ (sym t ∙ e) (rw (w, sub-zero, length-from v n off count, zero-add)))
+    pub file-read : {ys : List ℕ} → ys ≡ bytesFrom v n off (length (take (count - 0) buffer)) → done count (ys ++ drop (count - 0) buffer) ≡ read n off v buffer
+    unfolding read readFrom over
+    file-read {ys} y =
+        let w : ys ≡ bytesFrom v n off count = y ∙ ap (bytesFrom v n off) (rw sub-zero (length-take-le count buffer (c .1))) in
+        rw (its .row, its .number, ← c .0) (pick-false _ _ _ _ (its .file) (rw (w, sub-zero, length-from v n off count, zero-add)))
 
 -- ---- what an accepted read says of the file
 

@@ -6,6 +6,7 @@ pub mod FoundRows
 pub mod Changed
 pub mod GoodParts
 pub mod Changing
+pub mod FoundFile
 pub mod Given
 pub mod Limited
 pub mod Stored

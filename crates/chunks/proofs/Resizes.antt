@@ -7,7 +7,6 @@ use mathlib.Core.Option.{none, some}
 use Prim.Native.Nat.{ℕ, zero, suc, _+_, _-_, _*_, _/_, _%_, _^_, _≤_, _<_}
 use native.Mathlib.Nat.{not-suc-le-zero, le-of-suc-le-suc, mod-lt}
 use native.Mathlib.Omega.{arith}
-use denote.Enum.Declared.{tagOf}
 use lib.Dec.{eqb, ltb}
 use lib.ListN.{length, take, drop, getD, set}
 use lib.Seq.{take-all}
@@ -18,9 +17,10 @@ use Rattle.words.specs.Table.{lead, leadOf, Asc}
 use Rattle.words.proofs.Parts.{length-zeros, zeros-add, over-mid, over-nil}
 use Rattle.words.proofs.Multiples.{parts}
 use Rattle.words.proofs.Rules.{stop, go-on, pick-true, pick-false}
-use Rattle.types.specs.Nodes.{kindByte, fileLimit}
+use Rattle.types.specs.Nodes.{fileLimit}
 use Rattle.types.specs.declared.Answer.the-variants.{Done, Refused}
-use Rattle.types.specs.declared.Error.the-variants.{NoSuchEntry, IsDirectory, FileTooLarge, NoChunkRoom}
+use Rattle.types.specs.declared.Error.{Error}
+use Rattle.types.specs.declared.Error.the-variants.{FileTooLarge, NoChunkRoom}
 use Rattle.types.specs.declared.NodeRecord.{NodeRecord}
 use Rattle.allocator.specs.Allocator.{allocate}
 use Rattle.volume.specs.declared.Layout.{Layout}
@@ -28,23 +28,22 @@ use Rattle.volume.specs.declared.ChunkRow.{ChunkRow}
 use Rattle.volume.specs.Framed.{NodeFits, Fits}
 use Rattle.volume.specs.Search.{chunkUnder}
 use Rattle.volume.specs.Volume.{Volume, shown, laid, withBytes, withNodes}
-use Rattle.volume.specs.Sound.{node, chunkBefore, roundUp, Good}
+use Rattle.volume.specs.Sound.{chunkBefore, roundUp, Good}
 use Rattle.volume.specs.Steps.{stays, becomes, withNode}
 use Rattle.volume.proofs.Laid.{shown-laid}
-use Rattle.tables.specs.Tables.{Ready, nodeAt, chunkAt, isChunk, foundNode, layoutAt, sized}
-use Rattle.tables.specs.declared.Found.{Found}
-use Rattle.tables.specs.declared.Found.the-variants.{At, Nothing}
-use Rattle.tables.proofs.Found.{the-type}
-use Rattle.tables.proofs.Finds.{node-found, node-absent}
+use Rattle.tables.specs.Tables.{Ready, nodeAt, chunkAt, isChunk, layoutAt, sized}
+use Rattle.chunks.specs.declared.files.FileRow.{FileRow}
+use Rattle.chunks.specs.declared.files.FileRow.the-variants as row
+use Rattle.chunks.specs.Files.{fileFound}
 use Rattle.tables.proofs.Rooms.{ready-laid}
 use Rattle.chunks.specs.Content.{chunk}
 use Rattle.chunks.specs.Store.{room, hole, taken, ensured, ensuredFor, put, lowOf, highOf, pieceOf, writeChunk, only, goes, cutFrom}
 use Rattle.chunks.specs.Resize.{cramped, tailZeroed, shrunk, resizeFor, resize}
 use Rattle.chunks.specs.Stored.{Stored}
 use Rattle.chunks.proofs.Stored.{good-stored}
-use Rattle.chunks.proofs.Changed.{node-is, changed-set}
+use Rattle.chunks.proofs.Changed.{changed-set}
 use Rattle.chunks.proofs.Changing.{limit-most}
-use Rattle.chunks.proofs.FoundRows.{found-each}
+use Rattle.chunks.proofs.FoundFile.{File, file-found, row-fits, file-refused}
 use Rattle.chunks.proofs.Limited.{Meets, meets}
 use Rattle.chunks.proofs.Cursor.{row-yes, row-no}
 use Rattle.chunks.proofs.Fills.{over-within}
@@ -286,76 +285,62 @@ module _ (n z : ℕ) (l : List ℕ) (y : Layout) (ready : Ready l y) (g : Good (
   w : laid (shown l) ≡ l
   w = ready .formed .same
 
-  pub resize-absent : (r : Found) → tagOf the-type r ≡ 1 → r ≡ foundNode n (shown l .nodes) → Meets (Refused NoSuchEntry) l (resize n z (shown l))
-  unfolding resize resizeFor node
-  resize-absent (At i) t h = absurd (omega arith)
-  resize-absent Nothing t h = meets (stays NoSuchEntry (shown l)) _ (sym w) (rw (node-absent n (shown l .nodes) (g .nodeOrder) h))
+  pub resize-refused : {r : FileRow} {e : Error} → r ≡ row.Refused e → r ≡ fileFound n (shown l .nodes) → Meets (Refused e) l (resize n z (shown l))
+  unfolding resize resizeFor
+  resize-refused {r} {e} k h = meets (stays e (shown l)) _ (sym w) (file-refused (λ x. stays x (shown l)) (resizeFor z (shown l)) _ refl (λ x. refl) n (shown l) (g .nodeOrder) k h)
 
-  module _ {r : Found} {i : ℕ} (k : r ≡ At i) (h : r ≡ foundNode n (shown l .nodes)) where
-    pub resize-place : i < length (shown l .nodes)
-    resize-place = node-found n (shown l .nodes) i (sym k ∙ h) .0
+  module _ {r : FileRow} {i : ℕ} (k : r ≡ row.At i) (h : r ≡ fileFound n (shown l .nodes)) {d : NodeRecord} (q : d ≡ nodeAt (shown l .nodes) i) where
+    its : File n (shown l) i d
+    its = file-found n (shown l) k h q
 
-    module _ {d : NodeRecord} (q : d ≡ nodeAt (shown l .nodes) i) {b : Bool} (t : b ≡ eqb (kindByte (d .kind)) 0) where
-      its-node : node n (shown l) ≡ some d
-      unfolding node
-      its-node = node-found n (shown l .nodes) i (sym k ∙ h) .1 ∙ ap some (sym q)
+    fits-row : NodeFits d
+    fits-row = row-fits n (shown l) k h q (ready .formed .fits)
 
-      number : d .node ≡ n
-      number = node-is n (shown l) d its-node
-
-      row-fits : NodeFits d
-      unfolding node
-      row-fits = found-each (λ s. eqb (s .node) n) NodeFits (shown l .nodes) d (ready .formed .fits .nodeRows) its-node
-
-      pub resize-directory : b ≡ true → Meets (Refused IsDirectory) l (resize n z (shown l))
+    module _ {x : ℕ} (p : x ≡ fileLimit (d .limit)) where
+      pub resize-above : x < z → Meets (Refused FileTooLarge) l (resize n z (shown l))
       unfolding resize resizeFor
-      resize-directory e = meets (stays IsDirectory (shown l)) _ (sym w) (rw its-node (pick-true _ _ _ _ (sym t ∙ e) refl))
+      resize-above e = meets (stays FileTooLarge (shown l)) _ (sym w) (rw (its .row) (pick-false _ _ _ _ (its .file) (pick-true _ _ _ _ (rw (← p) (lt-ltb _ _ e)) refl)))
 
-      module _ (u : b ≡ false) {x : ℕ} (p : x ≡ fileLimit (d .limit)) where
-        pub resize-above : x < z → Meets (Refused FileTooLarge) l (resize n z (shown l))
+      module _ (s : z ≤ x) where
+        pub resize-most : z ≤ 1099511627776
+        resize-most = omega (arith, limit-most (d .limit) (fits-row .limit))
+
+        -- the row with the size set, in a volume with the nodes of this one
+        sized-set : (v : Volume) → v .nodes ≡ shown l .nodes → (m : List ℕ) {o : List ℕ} → shown m ≡ v → o ≡ laid (withNodes (set (shown m .nodes) i (sized z (nodeAt (shown m .nodes) i))) (shown m)) → o ≡ laid (withNode n (sized z) v)
+        sized-set v same m e f = f ∙ rw (e, same) (ap (λ ns. laid (withNodes ns v)) (sym (changed-set n (sized z) (shown l .nodes) i (g .nodeOrder) (its .found))))
+
+        pub resize-grown : d .size ≤ z → {o : List ℕ} → o ≡ laid (withNodes (set (shown l .nodes) i (sized z (nodeAt (shown l .nodes) i))) (shown l)) → Meets (Done 0) o (resize n z (shown l))
         unfolding resize resizeFor
-        resize-above e = meets (stays FileTooLarge (shown l)) _ (sym w) (rw its-node (pick-false _ _ _ _ (sym t ∙ u) (pick-true _ _ _ _ (rw (← p) (lt-ltb _ _ e)) refl)))
+        resize-grown e {o} f =
+            meets (becomes 0 (withNode (d .node) (sized z) (shown l))) _ (rw (its .number) (sized-set (shown l) refl l refl f))
+            (rw (its .row) (pick-false _ _ _ _ (its .file) (pick-false _ _ _ _ (rw (← p) (le-ltb _ _ s)) (pick-false _ _ _ _ (le-ltb _ _ e) refl))))
 
-        module _ (s : z ≤ x) where
-          pub resize-most : z ≤ 1099511627776
-          resize-most = omega (arith, limit-most (d .limit) (row-fits .limit))
+        module _ (e : z < d .size) {c : Bool} (full : c ≡ cramped n z (shown l)) where
+          full-row : cramped (d .node) z (shown l) ≡ c
+          full-row = rw (its .number) (sym full)
 
-          -- the row with the size set, in a volume with the nodes of this one
-          sized-set : (v : Volume) → v .nodes ≡ shown l .nodes → (m : List ℕ) {o : List ℕ} → shown m ≡ v → o ≡ laid (withNodes (set (shown m .nodes) i (sized z (nodeAt (shown m .nodes) i))) (shown m)) → o ≡ laid (withNode n (sized z) v)
-          sized-set v same m e f = f ∙ rw (e, same) (ap (λ ns. laid (withNodes ns v)) (sym (changed-set n (sized z) (shown l .nodes) i (g .nodeOrder) (sym k ∙ h))))
-
-          pub resize-grown : d .size ≤ z → {o : List ℕ} → o ≡ laid (withNodes (set (shown l .nodes) i (sized z (nodeAt (shown l .nodes) i))) (shown l)) → Meets (Done 0) o (resize n z (shown l))
+          pub resize-cramped : c ≡ true → Meets (Refused NoChunkRoom) l (resize n z (shown l))
           unfolding resize resizeFor
-          resize-grown e {o} f =
-              meets (becomes 0 (withNode (d .node) (sized z) (shown l))) _ (rw number (sized-set (shown l) refl l refl f))
-              (rw its-node (pick-false _ _ _ _ (sym t ∙ u) (pick-false _ _ _ _ (rw (← p) (le-ltb _ _ s)) (pick-false _ _ _ _ (le-ltb _ _ e) refl))))
+          resize-cramped f =
+              meets (stays NoChunkRoom (shown l)) _ (sym w)
+              (rw (its .row) (pick-false _ _ _ _ (its .file) (pick-false _ _ _ _ (rw (← p) (le-ltb _ _ s)) (pick-true _ _ _ _ (lt-ltb _ _ e) (pick-true _ _ _ _ (full-row ∙ f) refl)))))
 
-          module _ (e : z < d .size) {c : Bool} (full : c ≡ cramped n z (shown l)) where
-            full-row : cramped (d .node) z (shown l) ≡ c
-            full-row = rw number (sym full)
+          module _ (f : c ≡ false) where
+            pub shrink-asked : Ready l y × Good (shown l) × (z ≤ 1099511627776) × (cramped n z (shown l) ≡ false)
+            shrink-asked = (ready, g, resize-most, sym full ∙ f)
 
-            pub resize-cramped : c ≡ true → Meets (Refused NoChunkRoom) l (resize n z (shown l))
-            unfolding resize resizeFor
-            resize-cramped f =
-                meets (stays NoChunkRoom (shown l)) _ (sym w)
-                (rw its-node (pick-false _ _ _ _ (sym t ∙ u) (pick-false _ _ _ _ (rw (← p) (le-ltb _ _ s)) (pick-true _ _ _ _ (lt-ltb _ _ e) (pick-true _ _ _ _ (full-row ∙ f) refl)))))
+            node-small : n < 2 ^ 64
+            node-small = rw (its .number) at (fits-row .node)
 
-            module _ (f : c ≡ false) where
-              pub shrink-asked : Ready l y × Good (shown l) × (z ≤ 1099511627776) × (cramped n z (shown l) ≡ false)
-              shrink-asked = (ready, g, resize-most, sym full ∙ f)
+            module _ {m : List ℕ} (less : m ≡ laid (shrunk n z (shown l))) where
+              now-shown : shown m ≡ shrunk n z (shown l)
+              now-shown = shown-shrunk l y ready g n z resize-most (sym full ∙ f) node-small less
 
-              node-small : n < 2 ^ 64
-              node-small = rw number at (row-fits .node)
+              pub size-asked : Ready m y × (i < length (shown m .nodes))
+              size-asked = (ready-shrunk l y ready g n z resize-most (sym full ∙ f) node-small less, rw (now-shown, shrunk-nodes n z (shown l)) (its .place))
 
-              module _ {m : List ℕ} (less : m ≡ laid (shrunk n z (shown l))) where
-                now-shown : shown m ≡ shrunk n z (shown l)
-                now-shown = shown-shrunk l y ready g n z resize-most (sym full ∙ f) node-small less
-
-                pub size-asked : Ready m y × (i < length (shown m .nodes))
-                size-asked = (ready-shrunk l y ready g n z resize-most (sym full ∙ f) node-small less, rw (now-shown, shrunk-nodes n z (shown l)) resize-place)
-
-                pub resize-shrunk : {o : List ℕ} → o ≡ laid (withNodes (set (shown m .nodes) i (sized z (nodeAt (shown m .nodes) i))) (shown m)) → Meets (Done 0) o (resize n z (shown l))
-                unfolding resize resizeFor
-                resize-shrunk {o} a =
-                    meets (becomes 0 (withNode (d .node) (sized z) (shrunk (d .node) z (shown l)))) _ (rw number (sized-set (shrunk n z (shown l)) (shrunk-nodes n z (shown l)) m now-shown a))
-                    (rw its-node (pick-false _ _ _ _ (sym t ∙ u) (pick-false _ _ _ _ (rw (← p) (le-ltb _ _ s)) (pick-true _ _ _ _ (lt-ltb _ _ e) (pick-false _ _ _ _ (full-row ∙ f) refl)))))
+              pub resize-shrunk : {o : List ℕ} → o ≡ laid (withNodes (set (shown m .nodes) i (sized z (nodeAt (shown m .nodes) i))) (shown m)) → Meets (Done 0) o (resize n z (shown l))
+              unfolding resize resizeFor
+              resize-shrunk {o} a =
+                  meets (becomes 0 (withNode (d .node) (sized z) (shrunk (d .node) z (shown l)))) _ (rw (its .number) (sized-set (shrunk n z (shown l)) (shrunk-nodes n z (shown l)) m now-shown a))
+                  (rw (its .row) (pick-false _ _ _ _ (its .file) (pick-false _ _ _ _ (rw (← p) (le-ltb _ _ s)) (pick-true _ _ _ _ (lt-ltb _ _ e) (pick-false _ _ _ _ (full-row ∙ f) refl)))))

@@ -3,35 +3,33 @@
 use mathlib.Core.Path.{_≡_, refl, sym, ap, _∙_}
 use mathlib.Core.Bool.{Bool, true, false}
 use mathlib.Core.List.{List}
-use mathlib.Core.Option.{some}
 use Prim.Native.Nat.{ℕ, _+_, max, _≤_, _<_}
 use native.Mathlib.Omega.{arith}
-use denote.Enum.Declared.{tagOf}
-use lib.Dec.{eqb, ltb}
+use lib.Dec.{ltb}
 use lib.ListN.{length, set}
 use borrow.Author.Tests.{eq-eqb, ne-eqb, ltb-false}
 use Rattle.words.proofs.Rules.{pick-true, pick-false}
-use Rattle.types.specs.Nodes.{kindByte, fileLimit}
+use Rattle.types.specs.Nodes.{fileLimit}
 use Rattle.types.specs.declared.Answer.the-variants.{Done, Refused}
-use Rattle.types.specs.declared.Error.the-variants.{NoSuchEntry, IsDirectory, FileTooLarge, NoChunkRoom}
+use Rattle.types.specs.declared.Error.{Error}
+use Rattle.types.specs.declared.Error.the-variants.{FileTooLarge, NoChunkRoom}
 use Rattle.types.specs.declared.NodeRecord.{NodeRecord}
 use Rattle.volume.specs.declared.Layout.{Layout}
 use Rattle.volume.specs.Framed.{NodeFits, Fits}
 use Rattle.volume.specs.Volume.{Volume, shown, laid, withNodes}
-use Rattle.volume.specs.Sound.{node, Good}
+use Rattle.volume.specs.Sound.{Good}
 use Rattle.volume.specs.Steps.{stays, becomes, withNode}
-use Rattle.tables.specs.Tables.{Ready, nodeAt, foundNode, layoutAt, sized}
-use Rattle.tables.specs.declared.Found.{Found}
-use Rattle.tables.specs.declared.Found.the-variants.{At, Nothing}
-use Rattle.tables.proofs.Found.{the-type}
-use Rattle.tables.proofs.Finds.{node-found, node-absent}
+use Rattle.tables.specs.Tables.{Ready, nodeAt, layoutAt, sized}
+use Rattle.chunks.specs.declared.files.FileRow.{FileRow}
+use Rattle.chunks.specs.declared.files.FileRow.the-variants as row
+use Rattle.chunks.specs.Files.{fileFound}
 use Rattle.chunks.specs.Store.{room}
 use Rattle.chunks.specs.Stored.{Stored}
 use Rattle.chunks.specs.Write.{holes, written, writeFor, write}
 use Rattle.chunks.proofs.Stored.{good-stored}
-use Rattle.chunks.proofs.Changed.{node-is, changed-set}
+use Rattle.chunks.proofs.Changed.{changed-set}
 use Rattle.chunks.proofs.Changing.{limit-most}
-use Rattle.chunks.proofs.FoundRows.{found-each}
+use Rattle.chunks.proofs.FoundFile.{File, file-found, row-fits, file-refused}
 use Rattle.chunks.proofs.KeptFields.{kept-written}
 use Rattle.chunks.proofs.Limited.{Meets, meets}
 use Rattle.chunks.proofs.Takes.{ready-as, shown-as}
@@ -47,92 +45,76 @@ module _ (n offset : ℕ) (bs : List ℕ) (l : List ℕ) (y : Layout) (ready : R
   st : Stored v
   st = good-stored v (ready .formed .fits) g
 
-  -- 2
-  pub write-absent : (r : Found) → tagOf the-type r ≡ 1 → r ≡ foundNode n (v .nodes) → Meets (Refused NoSuchEntry) l (write n offset bs v)
-  unfolding write writeFor node
-  write-absent (At i) t h = absurd (omega arith)
-  write-absent Nothing t h = meets (stays NoSuchEntry v) _ (sym w) (rw (node-absent n (v .nodes) (g .nodeOrder) h))
+  -- 2, 3
+  pub write-refused : {r : FileRow} {e : Error} → r ≡ row.Refused e → r ≡ fileFound n (v .nodes) → Meets (Refused e) l (write n offset bs v)
+  unfolding write writeFor
+  write-refused {r} {e} k h = meets (stays e v) _ (sym w) (file-refused (λ z. stays z v) (writeFor offset bs v) _ refl (λ z. refl) n v (g .nodeOrder) k h)
 
-  module _ {r : Found} {i : ℕ} (k : r ≡ At i) (h : r ≡ foundNode n (v .nodes)) where
-    pub write-place : i < length (v .nodes)
-    write-place = node-found n (v .nodes) i (sym k ∙ h) .0
+  module _ {r : FileRow} {i : ℕ} (k : r ≡ row.At i) (h : r ≡ fileFound n (v .nodes)) {d : NodeRecord} (q : d ≡ nodeAt (v .nodes) i) where
+    its : File n v i d
+    its = file-found n v k h q
 
-    module _ {d : NodeRecord} (q : d ≡ nodeAt (v .nodes) i) {b : Bool} (t : b ≡ eqb (kindByte (d .kind)) 0) where
-      its-node : node n v ≡ some d
-      unfolding node
-      its-node = node-found n (v .nodes) i (sym k ∙ h) .1 ∙ ap some (sym q)
+    fits-row : NodeFits d
+    fits-row = row-fits n v k h q (ready .formed .fits)
 
-      number : d .node ≡ n
-      number = node-is n v d its-node
+    -- no bytes
+    pub write-none : length bs ≡ 0 → Meets (Done 0) l (write n offset bs v)
+    unfolding write writeFor
+    write-none e = meets (becomes 0 v) _ (sym w) (rw (its .row) (pick-false _ _ _ _ (its .file) (pick-true _ _ _ _ (eq-eqb _ _ e) refl)))
 
-      row-fits : NodeFits d
-      unfolding node
-      row-fits = found-each (λ s. eqb (s .node) n) NodeFits (v .nodes) d (ready .formed .fits .nodeRows) its-node
+    module _ (bytes : length bs ≡ 0 → ⊥) {x : ℕ} (p : x ≡ fileLimit (d .limit)) {c : Bool} (o : c ≡ ltb x (offset + length bs)) where
+      above : c ≡ ltb (fileLimit (d .limit)) (offset + length bs)
+      above = rw p at o
 
-      -- 3
-      pub write-directory : b ≡ true → Meets (Refused IsDirectory) l (write n offset bs v)
+      -- 5
+      pub write-above : c ≡ true → Meets (Refused FileTooLarge) l (write n offset bs v)
       unfolding write writeFor
-      write-directory e = meets (stays IsDirectory v) _ (sym w) (rw its-node (pick-true _ _ _ _ (sym t ∙ e) refl))
+      write-above e = meets (stays FileTooLarge v) _ (sym w) (rw (its .row) (pick-false _ _ _ _ (its .file) (pick-false _ _ _ _ (ne-eqb _ _ bytes) (pick-true _ _ _ _ (sym above ∙ e) refl))))
 
-      module _ (u : b ≡ false) where
-        -- no bytes
-        pub write-none : length bs ≡ 0 → Meets (Done 0) l (write n offset bs v)
-        unfolding write writeFor
-        write-none e = meets (becomes 0 v) _ (sym w) (rw its-node (pick-false _ _ _ _ (sym t ∙ u) (pick-true _ _ _ _ (eq-eqb _ _ e) refl)))
+      module _ (s : c ≡ false) where
+        -- what `is_cramped` asks
+        pub room-asked : Ready l y × Stored v × (0 < length bs) × (offset + length bs ≤ 1099511627776)
+        room-asked = (ready, st, omega arith, omega (arith, ltb-false (fileLimit (d .limit)) (offset + length bs) (sym above ∙ s), limit-most (d .limit) (fits-row .limit)))
 
-        module _ (bytes : length bs ≡ 0 → ⊥) {x : ℕ} (p : x ≡ fileLimit (d .limit)) {c : Bool} (o : c ≡ ltb x (offset + length bs)) where
-          above : c ≡ ltb (fileLimit (d .limit)) (offset + length bs)
-          above = rw p at o
-
-          -- 5
-          pub write-above : c ≡ true → Meets (Refused FileTooLarge) l (write n offset bs v)
+        module _ {a : Bool} (m : a ≡ ltb (room v) (holes n offset (length bs) v)) where
+          -- 6
+          pub write-cramped : a ≡ true → Meets (Refused NoChunkRoom) l (write n offset bs v)
           unfolding write writeFor
-          write-above e = meets (stays FileTooLarge v) _ (sym w) (rw its-node (pick-false _ _ _ _ (sym t ∙ u) (pick-false _ _ _ _ (ne-eqb _ _ bytes) (pick-true _ _ _ _ (sym above ∙ e) refl))))
+          write-cramped e =
+              meets (stays NoChunkRoom v) _ (sym w)
+              (rw (its .row, its .number) (pick-false _ _ _ _ (its .file) (pick-false _ _ _ _ (ne-eqb _ _ bytes) (pick-false _ _ _ _ (sym above ∙ s) (pick-true _ _ _ _ (sym m ∙ e) refl)))))
 
-          module _ (s : c ≡ false) where
-            -- what `is_cramped` asks
-            pub room-asked : Ready l y × Stored v × (0 < length bs) × (offset + length bs ≤ 1099511627776)
-            room-asked = (ready, st, omega arith, omega (arith, ltb-false (fileLimit (d .limit)) (offset + length bs) (sym above ∙ s), limit-most (d .limit) (row-fits .limit)))
+          module _ (z : a ≡ false) where
+            enough : holes n offset (length bs) v ≤ room v
+            enough = omega (arith, ltb-false (room v) (holes n offset (length bs) v) (sym m ∙ z))
 
-            module _ {a : Bool} (m : a ≡ ltb (room v) (holes n offset (length bs) v)) where
-              -- 6
-              pub write-cramped : a ≡ true → Meets (Refused NoChunkRoom) l (write n offset bs v)
+            -- what `write_chunks_v2` asks
+            pub chunks-asked : Ready l y × Stored v × (0 < length bs) × (offset + length bs ≤ 1099511627776) × (holes n offset (length bs) v ≤ room v)
+            chunks-asked = (ready, st, room-asked .2, room-asked .3, enough)
+
+            -- behind it
+            module _ {j : List ℕ} (e : j ≡ laid (written n offset bs v)) where
+              fits : Fits (written n offset bs v)
+              fits = fits-written v st n offset bs (room-asked .2) enough (ready .formed .fits) (rw (its .number) at (fits-row .node)) (omega (arith, room-asked .3))
+
+              shown-written : shown j ≡ written n offset bs v
+              shown-written = shown-as (written n offset bs v) fits e
+
+              nodes-stay : written n offset bs v .nodes ≡ v .nodes
+              nodes-stay = kept-written n offset bs v .nodes
+
+              -- what `set_size` asks
+              pub size-asked : Ready j y × (i < length (shown j .nodes))
+              size-asked =
+                  let p = kept-written n offset bs v in
+                  let f : layoutAt (written n offset bs v) ≡ layoutAt v = rw (p .nodeRoom, p .entryRoom, p .chunkRoom) in
+                  (ready-as (written n offset bs v) fits e (ready .layout ∙ sym f), rw (shown-written, nodes-stay) (its .place))
+
+              pub write-done : {size : ℕ} → size ≡ max (d .size) (offset + length bs) → {f : List ℕ} → f ≡ laid (withNodes (set (shown j .nodes) i (sized size (nodeAt (shown j .nodes) i))) (shown j)) → Meets (Done (length bs)) f (write n offset bs v)
               unfolding write writeFor
-              write-cramped e =
-                  meets (stays NoChunkRoom v) _ (sym w)
-                  (rw (its-node, number) (pick-false _ _ _ _ (sym t ∙ u) (pick-false _ _ _ _ (ne-eqb _ _ bytes) (pick-false _ _ _ _ (sym above ∙ s) (pick-true _ _ _ _ (sym m ∙ e) refl)))))
-
-              module _ (z : a ≡ false) where
-                enough : holes n offset (length bs) v ≤ room v
-                enough = omega (arith, ltb-false (room v) (holes n offset (length bs) v) (sym m ∙ z))
-
-                -- what `write_chunks_v2` asks
-                pub chunks-asked : Ready l y × Stored v × (0 < length bs) × (offset + length bs ≤ 1099511627776) × (holes n offset (length bs) v ≤ room v)
-                chunks-asked = (ready, st, room-asked .2, room-asked .3, enough)
-
-                -- behind it
-                module _ {j : List ℕ} (e : j ≡ laid (written n offset bs v)) where
-                  fits : Fits (written n offset bs v)
-                  fits = fits-written v st n offset bs (room-asked .2) enough (ready .formed .fits) (rw number at (row-fits .node)) (omega (arith, room-asked .3))
-
-                  shown-written : shown j ≡ written n offset bs v
-                  shown-written = shown-as (written n offset bs v) fits e
-
-                  nodes-stay : written n offset bs v .nodes ≡ v .nodes
-                  nodes-stay = kept-written n offset bs v .nodes
-
-                  -- what `set_size` asks
-                  pub size-asked : Ready j y × (i < length (shown j .nodes))
-                  size-asked =
-                      let p = kept-written n offset bs v in
-                      let f : layoutAt (written n offset bs v) ≡ layoutAt v = rw (p .nodeRoom, p .entryRoom, p .chunkRoom) in
-                      (ready-as (written n offset bs v) fits e (ready .layout ∙ sym f), rw (shown-written, nodes-stay) write-place)
-
-                  pub write-done : {size : ℕ} → size ≡ max (d .size) (offset + length bs) → {f : List ℕ} → f ≡ laid (withNodes (set (shown j .nodes) i (sized size (nodeAt (shown j .nodes) i))) (shown j)) → Meets (Done (length bs)) f (write n offset bs v)
-                  unfolding write writeFor
-                  write-done {size} es {f} ef =
-                      let m₁ = max (d .size) (offset + length bs) in
-                      let c₁ = changed-set n (sized m₁) (v .nodes) i (g .nodeOrder) (sym k ∙ h) in
-                      let x : f ≡ laid (withNode n (sized m₁) (written n offset bs v)) = ef ∙ rw (shown-written, nodes-stay, es) (ap (λ ns. laid (withNodes ns (written n offset bs v))) (sym c₁)) in
-                      meets (becomes (length bs) (withNode n (sized m₁) (written n offset bs v))) _ x
-                      (rw (its-node, number) (pick-false _ _ _ _ (sym t ∙ u) (pick-false _ _ _ _ (ne-eqb _ _ bytes) (pick-false _ _ _ _ (sym above ∙ s) (pick-false _ _ _ _ (sym m ∙ z) refl)))))
+              write-done {size} es {f} ef =
+                  let m₁ = max (d .size) (offset + length bs) in
+                  let c₁ = changed-set n (sized m₁) (v .nodes) i (g .nodeOrder) (its .found) in
+                  let x : f ≡ laid (withNode n (sized m₁) (written n offset bs v)) = ef ∙ rw (shown-written, nodes-stay, es) (ap (λ ns. laid (withNodes ns (written n offset bs v))) (sym c₁)) in
+                  meets (becomes (length bs) (withNode n (sized m₁) (written n offset bs v))) _ x
+                  (rw (its .row, its .number) (pick-false _ _ _ _ (its .file) (pick-false _ _ _ _ (ne-eqb _ _ bytes) (pick-false _ _ _ _ (sym above ∙ s) (pick-false _ _ _ _ (sym m ∙ z) refl)))))

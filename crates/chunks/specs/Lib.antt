@@ -1,3 +1,4 @@
+pub mod Files
 pub mod Content
 pub mod Read
 pub mod Limits

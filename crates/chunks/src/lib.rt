@@ -1,5 +1,6 @@
 // Files of a sound volume: their bytes read, written, cut and extended, chunk by chunk, and their limits.
 mod cutting;
+mod files;
 mod limits;
 mod reading;
 mod resizing;

@@ -1,5 +1,6 @@
 // A file's size limit set, to a number or none.
-use tables::Found;
+use crate::files::FileRow;
+use crate::files::find_file;
 use types::Answer;
 use types::Error;
 use types::Limit;
@@ -14,15 +15,12 @@ pub fn set_limit(volume: &mut [u8], layout: Layout, node: u64, limit: Limit) -> 
     requires { ⌜ Ready (now volume) layout × Good (shown (now volume)) ⌝ }
     ensures { λ r. ⌜ (r ≡ setLimit node limit (shown (now (volume .entry))) .answer) × (now (volume .exit) ≡ laid (setLimit node limit (shown (now (volume .entry))) .after)) ⌝ }
 {
-    let found = tables::find_node(volume, layout, node);
-    let Found::At(i) = found else {
-        return Answer::Refused(Error::NoSuchEntry);
+    let file = find_file(volume, layout, node);
+    let i = match file {
+        FileRow::At(i) => i,
+        FileRow::Refused(error) => return Answer::Refused(error),
     };
     let row = tables::node_row(volume, layout, i);
-    let kind = row.kind;
-    if types::is_directory(kind) {
-        return Answer::Refused(Error::IsDirectory);
-    }
     if types::MOST_SIZE < types::limit_word(limit) {
         return Answer::Refused(Error::InvalidArgument);
     }

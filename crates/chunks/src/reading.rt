@@ -1,8 +1,8 @@
 // Reading. Rows are found by halving once and then followed in order; a hole gives zeros.
+use crate::files::FileRow;
+use crate::files::find_file;
 use crate::rows::is_row;
-use tables::Found;
 use types::Answer;
-use types::Error;
 use volume::Layout;
 ghost use mathlib.Core.Path.{_≡_};
 ghost use Prim.Native.Nat.{ℕ, _+_, _-_, _/_, _%_, min, _≤_, _<_};
@@ -88,15 +88,12 @@ pub fn read(volume: &[u8], layout: Layout, node: u64, offset: u64, buffer: &mut 
     requires { ⌜ Ready (now volume) layout × Good (shown (now volume)) ⌝ }
     ensures { λ r. ⌜ outcome r (now (buffer .exit)) ≡ Read·read node offset (shown (now (volume .entry))) (now (buffer .entry)) ⌝ }
 {
-    let found = tables::find_node(volume, layout, node);
-    let Found::At(i) = found else {
-        return Answer::Refused(Error::NoSuchEntry);
+    let file = find_file(volume, layout, node);
+    let i = match file {
+        FileRow::At(i) => i,
+        FileRow::Refused(error) => return Answer::Refused(error),
     };
     let row = tables::node_row(volume, layout, i);
-    let kind = row.kind;
-    if types::is_directory(kind) {
-        return Answer::Refused(Error::IsDirectory);
-    }
     let count = read_count(row.size, offset, buffer.len());
     read_chunks_v2(volume, layout, node, offset, &mut buffer[0..count]);
     Answer::Done(count as u64)

@@ -1,21 +1,22 @@
 // Resizing: a file extended, or cut with its last chunk zeroed from its new end on.
 use crate::cutting::cut_from;
+use crate::files::FileRow;
+use crate::files::find_file;
 use crate::rows::is_row;
 use crate::writing::count_room;
 use crate::writing::take_chunk;
-use tables::Found;
 use types::Answer;
 use types::Error;
 use volume::Layout;
 ghost use mathlib.Core.Path.{_≡_};
 ghost use mathlib.Core.Bool.{not, false};
-ghost use Prim.Native.Nat.{ℕ, _+_, _-_, _/_, _%_, _≤_, _<_};
+ghost use Prim.Native.Nat.{_+_, _-_, _/_, _%_, _≤_, _<_};
 ghost use lib.Dec.{eqb};
 ghost use lib.ListN.{length};
 ghost use Rattle.words.specs.Bytes.{over, zeros};
 ghost use Rattle.words.specs.Rule.{pick};
 ghost use Rattle.volume.specs.Volume.{shown, laid, withBytes};
-ghost use Rattle.volume.specs.Sound.{Good, roundUp};
+ghost use Rattle.volume.specs.Sound.{Good};
 ghost use Rattle.tables.specs.Tables.{Ready};
 ghost use Rattle.chunks.specs.Content.{chunk};
 ghost use Rattle.chunks.specs.Store.{room, hole, only, goes};
@@ -108,15 +109,12 @@ pub fn resize_file(volume: &mut [u8], layout: Layout, node: u64, size: u64) -> A
     requires { ⌜ Ready (now volume) layout × Good (shown (now volume)) ⌝ }
     ensures { λ r. ⌜ (r ≡ resize node size (shown (now (volume .entry))) .answer) × (now (volume .exit) ≡ laid (resize node size (shown (now (volume .entry))) .after)) ⌝ }
 {
-    let found = tables::find_node(volume, layout, node);
-    let Found::At(i) = found else {
-        return Answer::Refused(Error::NoSuchEntry);
+    let file = find_file(volume, layout, node);
+    let i = match file {
+        FileRow::At(i) => i,
+        FileRow::Refused(error) => return Answer::Refused(error),
     };
     let row = tables::node_row(volume, layout, i);
-    let kind = row.kind;
-    if types::is_directory(kind) {
-        return Answer::Refused(Error::IsDirectory);
-    }
     let limit = row.limit;
     if types::file_limit(limit) < size {
         return Answer::Refused(Error::FileTooLarge);

@@ -1,6 +1,7 @@
 // Writing. Room for every new chunk is known before the first byte changes; rows are found by halving once and then followed in order.
+use crate::files::FileRow;
+use crate::files::find_file;
 use crate::rows::is_row;
-use tables::Found;
 use types::Answer;
 use types::Error;
 use volume::ChunkRow;
@@ -232,15 +233,12 @@ pub fn write(volume: &mut [u8], layout: Layout, node: u64, offset: u64, bytes: &
     requires { ⌜ Ready (now volume) layout × Good (shown (now volume)) ⌝ }
     ensures { λ r. ⌜ (r ≡ Write·write node offset (now (bytes .entry)) (shown (now (volume .entry))) .answer) × (now (volume .exit) ≡ laid (Write·write node offset (now (bytes .entry)) (shown (now (volume .entry))) .after)) ⌝ }
 {
-    let found = tables::find_node(volume, layout, node);
-    let Found::At(i) = found else {
-        return Answer::Refused(Error::NoSuchEntry);
+    let file = find_file(volume, layout, node);
+    let i = match file {
+        FileRow::At(i) => i,
+        FileRow::Refused(error) => return Answer::Refused(error),
     };
     let row = tables::node_row(volume, layout, i);
-    let kind = row.kind;
-    if types::is_directory(kind) {
-        return Answer::Refused(Error::IsDirectory);
-    }
     let count = bytes.len() as u64;
     if count == 0 {
         return Answer::Done(0);

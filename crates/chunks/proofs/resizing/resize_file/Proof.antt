@@ -1,111 +1,99 @@
 use borrow.Author.Needs.{needs}
 use Rattle.chunks.proofs.resizing.resize_file.Statement.{statement}
 use Rattle.chunks.proofs.resizing.resize_file.Tie as tie
-use Rattle.chunks.proofs.Resizes.{resize-absent, resize-place, resize-directory, resize-above, resize-most, resize-grown, resize-cramped, shrink-asked, size-asked, resize-shrunk}
+use Rattle.chunks.proofs.FoundFile.{file-place}
+use Rattle.chunks.proofs.Resizes.{resize-refused, resize-above, resize-most, resize-grown, resize-cramped, shrink-asked, size-asked, resize-shrunk}
 use Rattle.chunks.proofs.Stored.{good-stored}
 use Rattle.volume.specs.Volume.{shown}
 use denote.Ref.{now}
 
-find-node-requires : tie.Need-find-node-requires
-find-node-requires c κs = search needs
+find-file-requires : tie.Need-find-file-requires
+find-file-requires c κs = search needs
 
-enum-known-found : tie.Need-enum-known-found
-enum-known-found c = search needs
+enum-known-file : tie.Need-enum-known-file
+enum-known-file c = search needs
 
-enum-told : tie.Need-enum-told
-enum-told c = search needs
+enum-known-file-2 : tie.Need-enum-known-file-2
+enum-known-file-2 c = search needs
 
 same-length : tie.Need-same-length
 same-length c = search needs
 
 returns : tie.Need-returns
 returns c =
-    resize-absent (c .before .before .before .before .before .args .node) (c .before .before .before .before .before .args .size) (now (c .before .before .before .before .before .args .volume)) (c .before .before .before .before .before .args .layout) (c .before .before .before .before .before .pre .0) (c .before .before .before .before .before .pre .1) _ (c .before .match .keys2) (c .before .before .find-node .ensures)
+    resize-refused (c .before .before .before .before .before .before .args .node) (c .before .before .before .before .before .before .args .size) (now (c .before .before .before .before .before .before .args .volume)) (c .before .before .before .before .before .before .args .layout) (c .before .before .before .before .before .before .pre .0) (c .before .before .before .before .before .before .pre .1) (c .before .file2 .given .1) (c .before .before .before .find-file .ensures)
 
 node-row-requires : tie.Need-node-row-requires
 node-row-requires c κs =
-    (c .before .before .before .before .before .before .before .pre .0, resize-place (c .before .before .before .before .before .before .before .args .node) (c .before .before .before .before .before .before .before .args .size) (now (c .before .before .before .before .before .before .before .args .volume)) (c .before .before .before .before .before .before .before .args .layout) (c .before .before .before .before .before .before .before .pre .0) (c .before .before .before .before .before .before .before .pre .1) (c .before .before .found .given .1) (c .before .before .before .before .find-node .ensures))
+    (c .before .before .before .before .before .before .before .pre .0, file-place (c .before .before .before .before .before .before .before .args .node) (shown (now (c .before .before .before .before .before .before .before .args .volume))) (c .before .before .file .given .1) (c .before .before .before .before .find-file .ensures))
 
-is-directory-requires : tie.Need-is-directory-requires
-is-directory-requires c κs = search needs
+file-limit-requires : tie.Need-file-limit-requires
+file-limit-requires c κs = search needs
 
 same-length-2 : tie.Need-same-length-2
 same-length-2 c = search needs
 
 returns-2 : tie.Need-returns-2
 returns-2 c =
-    resize-directory (c .before .before .before .before .before .before .before .before .before .before .args .node) (c .before .before .before .before .before .before .before .before .before .before .args .size) (now (c .before .before .before .before .before .before .before .before .before .before .args .volume)) (c .before .before .before .before .before .before .before .before .before .before .args .layout) (c .before .before .before .before .before .before .before .before .before .before .pre .0) (c .before .before .before .before .before .before .before .before .before .before .pre .1) (c .before .before .before .before .before .found .given .1) (c .before .before .before .before .before .before .before .find-node .ensures) (c .before .before .node-row .ensures) (c .before .is-directory .ensures) (c .if1 .taken)
+    resize-above (c .before .before .before .before .before .before .before .before .before .before .args .node) (c .before .before .before .before .before .before .before .before .before .before .args .size) (now (c .before .before .before .before .before .before .before .before .before .before .args .volume)) (c .before .before .before .before .before .before .before .before .before .before .args .layout) (c .before .before .before .before .before .before .before .before .before .before .pre .0) (c .before .before .before .before .before .before .before .before .before .before .pre .1) (c .before .before .before .before .before .file .given .1) (c .before .before .before .before .before .before .before .find-file .ensures) (c .before .before .node-row .ensures) (c .before .file-limit .ensures) (c .if1 .taken)
 
-file-limit-requires : tie.Need-file-limit-requires
-file-limit-requires c κs = search needs
+set-size-requires : tie.Need-set-size-requires
+set-size-requires c κs =
+    (c .before .before .before .before .before .before .before .before .before .before .before .before .before .pre .0, file-place (c .before .before .before .before .before .before .before .before .before .before .before .before .before .args .node) (shown (now (c .before .before .before .before .before .before .before .before .before .before .before .before .before .args .volume))) (c .before .before .before .before .before .before .before .before .file .given .1) (c .before .before .before .before .before .before .before .before .before .before .find-file .ensures))
 
 same-length-3 : tie.Need-same-length-3
 same-length-3 c = search needs
 
 returns-3 : tie.Need-returns-3
 returns-3 c =
-    resize-above (c .before .before .before .before .before .before .before .before .before .before .before .before .args .node) (c .before .before .before .before .before .before .before .before .before .before .before .before .args .size) (now (c .before .before .before .before .before .before .before .before .before .before .before .before .args .volume)) (c .before .before .before .before .before .before .before .before .before .before .before .before .args .layout) (c .before .before .before .before .before .before .before .before .before .before .before .before .pre .0) (c .before .before .before .before .before .before .before .before .before .before .before .before .pre .1) (c .before .before .before .before .before .before .before .found .given .1) (c .before .before .before .before .before .before .before .before .before .find-node .ensures) (c .before .before .before .before .node-row .ensures) (c .before .before .before .is-directory .ensures) (c .before .before .if1 .left) (c .before .file-limit .ensures) (c .if2 .taken)
+    resize-grown (c .before .before .before .before .before .before .before .before .before .before .before .before .before .before .before .before .args .node) (c .before .before .before .before .before .before .before .before .before .before .before .before .before .before .before .before .args .size) (now (c .before .before .before .before .before .before .before .before .before .before .before .before .before .before .before .before .args .volume)) (c .before .before .before .before .before .before .before .before .before .before .before .before .before .before .before .before .args .layout) (c .before .before .before .before .before .before .before .before .before .before .before .before .before .before .before .before .pre .0) (c .before .before .before .before .before .before .before .before .before .before .before .before .before .before .before .before .pre .1) (c .before .before .before .before .before .before .before .before .before .before .before .file .given .1) (c .before .before .before .before .before .before .before .before .before .before .before .before .before .find-file .ensures) (c .before .before .before .before .before .before .before .before .node-row .ensures) (c .before .before .before .before .before .before .before .file-limit .ensures) (c .before .before .before .before .before .before .if1 .left) (c .before .before .before .before .if2 .taken) (c .before .before .set-size .ensures)
 
-set-size-requires : tie.Need-set-size-requires
-set-size-requires c κs =
-    (c .before .before .before .before .before .before .before .before .before .before .before .before .before .before .before .pre .0, resize-place (c .before .before .before .before .before .before .before .before .before .before .before .before .before .before .before .args .node) (c .before .before .before .before .before .before .before .before .before .before .before .before .before .before .before .args .size) (now (c .before .before .before .before .before .before .before .before .before .before .before .before .before .before .before .args .volume)) (c .before .before .before .before .before .before .before .before .before .before .before .before .before .before .before .args .layout) (c .before .before .before .before .before .before .before .before .before .before .before .before .before .before .before .pre .0) (c .before .before .before .before .before .before .before .before .before .before .before .before .before .before .before .pre .1) (c .before .before .before .before .before .before .before .before .before .before .found .given .1) (c .before .before .before .before .before .before .before .before .before .before .before .before .find-node .ensures))
+is-cramped-requires : tie.Need-is-cramped-requires
+is-cramped-requires c κs =
+    (c .before .before .before .before .before .before .before .before .before .before .before .before .before .pre .0, good-stored (shown (now (c .before .before .before .before .before .before .before .before .before .before .before .before .before .args .volume))) (c .before .before .before .before .before .before .before .before .before .before .before .before .before .pre .0 .formed .fits) (c .before .before .before .before .before .before .before .before .before .before .before .before .before .pre .1), resize-most (c .before .before .before .before .before .before .before .before .before .before .before .before .before .args .node) (c .before .before .before .before .before .before .before .before .before .before .before .before .before .args .size) (now (c .before .before .before .before .before .before .before .before .before .before .before .before .before .args .volume)) (c .before .before .before .before .before .before .before .before .before .before .before .before .before .args .layout) (c .before .before .before .before .before .before .before .before .before .before .before .before .before .pre .0) (c .before .before .before .before .before .before .before .before .before .before .before .before .before .pre .1) (c .before .before .before .before .before .before .before .before .file .given .1) (c .before .before .before .before .before .before .before .before .before .before .find-file .ensures) (c .before .before .before .before .before .node-row .ensures) (c .before .before .before .before .file-limit .ensures) (c .before .before .before .if1 .left))
 
 same-length-4 : tie.Need-same-length-4
 same-length-4 c = search needs
 
 returns-4 : tie.Need-returns-4
 returns-4 c =
-    resize-grown (c .before .before .before .before .before .before .before .before .before .before .before .before .before .before .before .before .before .before .args .node) (c .before .before .before .before .before .before .before .before .before .before .before .before .before .before .before .before .before .before .args .size) (now (c .before .before .before .before .before .before .before .before .before .before .before .before .before .before .before .before .before .before .args .volume)) (c .before .before .before .before .before .before .before .before .before .before .before .before .before .before .before .before .before .before .args .layout) (c .before .before .before .before .before .before .before .before .before .before .before .before .before .before .before .before .before .before .pre .0) (c .before .before .before .before .before .before .before .before .before .before .before .before .before .before .before .before .before .before .pre .1) (c .before .before .before .before .before .before .before .before .before .before .before .before .before .found .given .1) (c .before .before .before .before .before .before .before .before .before .before .before .before .before .before .before .find-node .ensures) (c .before .before .before .before .before .before .before .before .before .before .node-row .ensures) (c .before .before .before .before .before .before .before .before .before .is-directory .ensures) (c .before .before .before .before .before .before .before .before .if1 .left) (c .before .before .before .before .before .before .before .file-limit .ensures) (c .before .before .before .before .before .before .if2 .left) (c .before .before .before .before .if3 .taken) (c .before .before .set-size .ensures)
+    resize-cramped (c .before .before .before .before .before .before .before .before .before .before .before .before .before .before .before .args .node) (c .before .before .before .before .before .before .before .before .before .before .before .before .before .before .before .args .size) (now (c .before .before .before .before .before .before .before .before .before .before .before .before .before .before .before .args .volume)) (c .before .before .before .before .before .before .before .before .before .before .before .before .before .before .before .args .layout) (c .before .before .before .before .before .before .before .before .before .before .before .before .before .before .before .pre .0) (c .before .before .before .before .before .before .before .before .before .before .before .before .before .before .before .pre .1) (c .before .before .before .before .before .before .before .before .before .before .file .given .1) (c .before .before .before .before .before .before .before .before .before .before .before .before .find-file .ensures) (c .before .before .before .before .before .before .before .node-row .ensures) (c .before .before .before .before .before .before .file-limit .ensures) (c .before .before .before .before .before .if1 .left) (c .before .before .before .if2 .left) (c .before .is-cramped .ensures) (c .if3 .taken)
 
-is-cramped-requires : tie.Need-is-cramped-requires
-is-cramped-requires c κs =
-    (c .before .before .before .before .before .before .before .before .before .before .before .before .before .before .before .pre .0, good-stored (shown (now (c .before .before .before .before .before .before .before .before .before .before .before .before .before .before .before .args .volume))) (c .before .before .before .before .before .before .before .before .before .before .before .before .before .before .before .pre .0 .formed .fits) (c .before .before .before .before .before .before .before .before .before .before .before .before .before .before .before .pre .1), resize-most (c .before .before .before .before .before .before .before .before .before .before .before .before .before .before .before .args .node) (c .before .before .before .before .before .before .before .before .before .before .before .before .before .before .before .args .size) (now (c .before .before .before .before .before .before .before .before .before .before .before .before .before .before .before .args .volume)) (c .before .before .before .before .before .before .before .before .before .before .before .before .before .before .before .args .layout) (c .before .before .before .before .before .before .before .before .before .before .before .before .before .before .before .pre .0) (c .before .before .before .before .before .before .before .before .before .before .before .before .before .before .before .pre .1) (c .before .before .before .before .before .before .before .before .before .before .found .given .1) (c .before .before .before .before .before .before .before .before .before .before .before .before .find-node .ensures) (c .before .before .before .before .before .before .before .node-row .ensures) (c .before .before .before .before .before .before .is-directory .ensures) (c .before .before .before .before .before .if1 .left) (c .before .before .before .before .file-limit .ensures) (c .before .before .before .if2 .left))
+resize-file-internal-requires : tie.Need-resize-file-internal-requires
+resize-file-internal-requires c κs =
+    shrink-asked (c .before .before .before .before .before .before .before .before .before .before .before .before .before .before .before .before .args .node) (c .before .before .before .before .before .before .before .before .before .before .before .before .before .before .before .before .args .size) (now (c .before .before .before .before .before .before .before .before .before .before .before .before .before .before .before .before .args .volume)) (c .before .before .before .before .before .before .before .before .before .before .before .before .before .before .before .before .args .layout) (c .before .before .before .before .before .before .before .before .before .before .before .before .before .before .before .before .pre .0) (c .before .before .before .before .before .before .before .before .before .before .before .before .before .before .before .before .pre .1) (c .before .before .before .before .before .before .before .before .before .before .before .file .given .1) (c .before .before .before .before .before .before .before .before .before .before .before .before .before .find-file .ensures) (c .before .before .before .before .before .before .before .before .node-row .ensures) (c .before .before .before .before .before .before .before .file-limit .ensures) (c .before .before .before .before .before .before .if1 .left) (c .before .before .before .before .if2 .left) (c .before .before .is-cramped .ensures) (c .before .if3 .left)
+
+set-size-requires-2 : tie.Need-set-size-requires-2
+set-size-requires-2 c κs =
+    size-asked (c .before .before .before .before .before .before .before .before .before .before .before .before .before .before .before .before .before .before .before .before .args .node) (c .before .before .before .before .before .before .before .before .before .before .before .before .before .before .before .before .before .before .before .before .args .size) (now (c .before .before .before .before .before .before .before .before .before .before .before .before .before .before .before .before .before .before .before .before .args .volume)) (c .before .before .before .before .before .before .before .before .before .before .before .before .before .before .before .before .before .before .before .before .args .layout) (c .before .before .before .before .before .before .before .before .before .before .before .before .before .before .before .before .before .before .before .before .pre .0) (c .before .before .before .before .before .before .before .before .before .before .before .before .before .before .before .before .before .before .before .before .pre .1) (c .before .before .before .before .before .before .before .before .before .before .before .before .before .before .before .file .given .1) (c .before .before .before .before .before .before .before .before .before .before .before .before .before .before .before .before .before .find-file .ensures) (c .before .before .before .before .before .before .before .before .before .before .before .before .node-row .ensures) (c .before .before .before .before .before .before .before .before .before .before .before .file-limit .ensures) (c .before .before .before .before .before .before .before .before .before .before .if1 .left) (c .before .before .before .before .before .before .before .before .if2 .left) (c .before .before .before .before .before .before .is-cramped .ensures) (c .before .before .before .before .before .if3 .left) (c .before .before .before .resize-file-internal .ensures)
 
 same-length-5 : tie.Need-same-length-5
 same-length-5 c = search needs
 
 returns-5 : tie.Need-returns-5
 returns-5 c =
-    resize-cramped (c .before .before .before .before .before .before .before .before .before .before .before .before .before .before .before .before .before .args .node) (c .before .before .before .before .before .before .before .before .before .before .before .before .before .before .before .before .before .args .size) (now (c .before .before .before .before .before .before .before .before .before .before .before .before .before .before .before .before .before .args .volume)) (c .before .before .before .before .before .before .before .before .before .before .before .before .before .before .before .before .before .args .layout) (c .before .before .before .before .before .before .before .before .before .before .before .before .before .before .before .before .before .pre .0) (c .before .before .before .before .before .before .before .before .before .before .before .before .before .before .before .before .before .pre .1) (c .before .before .before .before .before .before .before .before .before .before .before .before .found .given .1) (c .before .before .before .before .before .before .before .before .before .before .before .before .before .before .find-node .ensures) (c .before .before .before .before .before .before .before .before .before .node-row .ensures) (c .before .before .before .before .before .before .before .before .is-directory .ensures) (c .before .before .before .before .before .before .before .if1 .left) (c .before .before .before .before .before .before .file-limit .ensures) (c .before .before .before .before .before .if2 .left) (c .before .before .before .if3 .left) (c .before .is-cramped .ensures) (c .if4 .taken)
-
-resize-file-internal-requires : tie.Need-resize-file-internal-requires
-resize-file-internal-requires c κs =
-    shrink-asked (c .before .before .before .before .before .before .before .before .before .before .before .before .before .before .before .before .before .before .args .node) (c .before .before .before .before .before .before .before .before .before .before .before .before .before .before .before .before .before .before .args .size) (now (c .before .before .before .before .before .before .before .before .before .before .before .before .before .before .before .before .before .before .args .volume)) (c .before .before .before .before .before .before .before .before .before .before .before .before .before .before .before .before .before .before .args .layout) (c .before .before .before .before .before .before .before .before .before .before .before .before .before .before .before .before .before .before .pre .0) (c .before .before .before .before .before .before .before .before .before .before .before .before .before .before .before .before .before .before .pre .1) (c .before .before .before .before .before .before .before .before .before .before .before .before .before .found .given .1) (c .before .before .before .before .before .before .before .before .before .before .before .before .before .before .before .find-node .ensures) (c .before .before .before .before .before .before .before .before .before .before .node-row .ensures) (c .before .before .before .before .before .before .before .before .before .is-directory .ensures) (c .before .before .before .before .before .before .before .before .if1 .left) (c .before .before .before .before .before .before .before .file-limit .ensures) (c .before .before .before .before .before .before .if2 .left) (c .before .before .before .before .if3 .left) (c .before .before .is-cramped .ensures) (c .before .if4 .left)
-
-set-size-requires-2 : tie.Need-set-size-requires-2
-set-size-requires-2 c κs =
-    size-asked (c .before .before .before .before .before .before .before .before .before .before .before .before .before .before .before .before .before .before .before .before .before .before .args .node) (c .before .before .before .before .before .before .before .before .before .before .before .before .before .before .before .before .before .before .before .before .before .before .args .size) (now (c .before .before .before .before .before .before .before .before .before .before .before .before .before .before .before .before .before .before .before .before .before .before .args .volume)) (c .before .before .before .before .before .before .before .before .before .before .before .before .before .before .before .before .before .before .before .before .before .before .args .layout) (c .before .before .before .before .before .before .before .before .before .before .before .before .before .before .before .before .before .before .before .before .before .before .pre .0) (c .before .before .before .before .before .before .before .before .before .before .before .before .before .before .before .before .before .before .before .before .before .before .pre .1) (c .before .before .before .before .before .before .before .before .before .before .before .before .before .before .before .before .before .found .given .1) (c .before .before .before .before .before .before .before .before .before .before .before .before .before .before .before .before .before .before .before .find-node .ensures) (c .before .before .before .before .before .before .before .before .before .before .before .before .before .before .node-row .ensures) (c .before .before .before .before .before .before .before .before .before .before .before .before .before .is-directory .ensures) (c .before .before .before .before .before .before .before .before .before .before .before .before .if1 .left) (c .before .before .before .before .before .before .before .before .before .before .before .file-limit .ensures) (c .before .before .before .before .before .before .before .before .before .before .if2 .left) (c .before .before .before .before .before .before .before .before .if3 .left) (c .before .before .before .before .before .before .is-cramped .ensures) (c .before .before .before .before .before .if4 .left) (c .before .before .before .resize-file-internal .ensures)
-
-same-length-6 : tie.Need-same-length-6
-same-length-6 c = search needs
-
-returns-6 : tie.Need-returns-6
-returns-6 c =
-    resize-shrunk (c .before .before .before .before .before .before .before .before .before .before .before .before .before .before .before .before .before .before .before .before .before .before .before .before .before .args .node) (c .before .before .before .before .before .before .before .before .before .before .before .before .before .before .before .before .before .before .before .before .before .before .before .before .before .args .size) (now (c .before .before .before .before .before .before .before .before .before .before .before .before .before .before .before .before .before .before .before .before .before .before .before .before .before .args .volume)) (c .before .before .before .before .before .before .before .before .before .before .before .before .before .before .before .before .before .before .before .before .before .before .before .before .before .args .layout) (c .before .before .before .before .before .before .before .before .before .before .before .before .before .before .before .before .before .before .before .before .before .before .before .before .before .pre .0) (c .before .before .before .before .before .before .before .before .before .before .before .before .before .before .before .before .before .before .before .before .before .before .before .before .before .pre .1) (c .before .before .before .before .before .before .before .before .before .before .before .before .before .before .before .before .before .before .before .before .found .given .1) (c .before .before .before .before .before .before .before .before .before .before .before .before .before .before .before .before .before .before .before .before .before .before .find-node .ensures) (c .before .before .before .before .before .before .before .before .before .before .before .before .before .before .before .before .before .node-row .ensures) (c .before .before .before .before .before .before .before .before .before .before .before .before .before .before .before .before .is-directory .ensures) (c .before .before .before .before .before .before .before .before .before .before .before .before .before .before .before .if1 .left) (c .before .before .before .before .before .before .before .before .before .before .before .before .before .before .file-limit .ensures) (c .before .before .before .before .before .before .before .before .before .before .before .before .before .if2 .left) (c .before .before .before .before .before .before .before .before .before .before .before .if3 .left) (c .before .before .before .before .before .before .before .before .before .is-cramped .ensures) (c .before .before .before .before .before .before .before .before .if4 .left) (c .before .before .before .before .before .before .resize-file-internal .ensures) (c .before .before .set-size2 .ensures)
+    resize-shrunk (c .before .before .before .before .before .before .before .before .before .before .before .before .before .before .before .before .before .before .before .before .before .before .before .args .node) (c .before .before .before .before .before .before .before .before .before .before .before .before .before .before .before .before .before .before .before .before .before .before .before .args .size) (now (c .before .before .before .before .before .before .before .before .before .before .before .before .before .before .before .before .before .before .before .before .before .before .before .args .volume)) (c .before .before .before .before .before .before .before .before .before .before .before .before .before .before .before .before .before .before .before .before .before .before .before .args .layout) (c .before .before .before .before .before .before .before .before .before .before .before .before .before .before .before .before .before .before .before .before .before .before .before .pre .0) (c .before .before .before .before .before .before .before .before .before .before .before .before .before .before .before .before .before .before .before .before .before .before .before .pre .1) (c .before .before .before .before .before .before .before .before .before .before .before .before .before .before .before .before .before .before .file .given .1) (c .before .before .before .before .before .before .before .before .before .before .before .before .before .before .before .before .before .before .before .before .find-file .ensures) (c .before .before .before .before .before .before .before .before .before .before .before .before .before .before .before .node-row .ensures) (c .before .before .before .before .before .before .before .before .before .before .before .before .before .before .file-limit .ensures) (c .before .before .before .before .before .before .before .before .before .before .before .before .before .if1 .left) (c .before .before .before .before .before .before .before .before .before .before .before .if2 .left) (c .before .before .before .before .before .before .before .before .before .is-cramped .ensures) (c .before .before .before .before .before .before .before .before .if3 .left) (c .before .before .before .before .before .before .resize-file-internal .ensures) (c .before .before .set-size2 .ensures)
 
 pub resize-file-spec : {M : Type 1} → statement M
 resize-file-spec =
     tie.close
     (tie.spec
-    find-node-requires
-    enum-known-found
-    enum-told
+    find-file-requires
+    enum-known-file
+    enum-known-file-2
     same-length
     returns
     node-row-requires
-    is-directory-requires
+    file-limit-requires
     same-length-2
     returns-2
-    file-limit-requires
+    set-size-requires
     same-length-3
     returns-3
-    set-size-requires
+    is-cramped-requires
     same-length-4
     returns-4
-    is-cramped-requires
-    same-length-5
-    returns-5
     resize-file-internal-requires
     set-size-requires-2
-    same-length-6
-    returns-6)
+    same-length-5
+    returns-5)

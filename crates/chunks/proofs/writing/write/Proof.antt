@@ -1,46 +1,38 @@
 use borrow.Author.Needs.{needs}
 use Rattle.chunks.proofs.writing.write.Statement.{statement}
 use Rattle.chunks.proofs.writing.write.Tie as tie
+use Rattle.chunks.proofs.FoundFile.{file-place}
 use denote.Ref.{now}
+use Rattle.volume.specs.Volume.{shown}
 use native.Mathlib.Omega.{arith}
-use Rattle.chunks.proofs.Writes.{write-absent, write-place, write-directory, write-none, write-above, room-asked, write-cramped, chunks-asked, size-asked, write-done}
+use Rattle.chunks.proofs.Writes.{write-refused, write-none, write-above, room-asked, write-cramped, chunks-asked, size-asked, write-done}
 
-find-node-requires : tie.Need-find-node-requires
-find-node-requires c κs = search needs
+find-file-requires : tie.Need-find-file-requires
+find-file-requires c κs = search needs
 
-enum-known-found : tie.Need-enum-known-found
-enum-known-found c = search needs
+enum-known-file : tie.Need-enum-known-file
+enum-known-file c = search needs
 
-enum-told : tie.Need-enum-told
-enum-told c = search needs
+enum-known-file-2 : tie.Need-enum-known-file-2
+enum-known-file-2 c = search needs
 
 same-length : tie.Need-same-length
 same-length c = search needs
 
 returns : tie.Need-returns
 returns c =
-    write-absent (c .before .before .before .before .before .before .args .node) (c .before .before .before .before .before .before .args .offset) (now (c .before .before .before .before .before .before .args .bytes)) (now (c .before .before .before .before .before .before .args .volume)) (c .before .before .before .before .before .before .args .layout) (c .before .before .before .before .before .before .pre .0) (c .before .before .before .before .before .before .pre .1) _ (c .before .match .keys2) (c .before .before .find-node .ensures)
+    write-refused (c .before .before .before .before .before .before .before .args .node) (c .before .before .before .before .before .before .before .args .offset) (now (c .before .before .before .before .before .before .before .args .bytes)) (now (c .before .before .before .before .before .before .before .args .volume)) (c .before .before .before .before .before .before .before .args .layout) (c .before .before .before .before .before .before .before .pre .0) (c .before .before .before .before .before .before .before .pre .1) (c .before .file2 .given .1) (c .before .before .before .find-file .ensures)
 
 node-row-requires : tie.Need-node-row-requires
 node-row-requires c κs =
-    (c .before .before .before .before .before .before .before .before .pre .0, write-place (c .before .before .before .before .before .before .before .before .args .node) (c .before .before .before .before .before .before .before .before .args .offset) (now (c .before .before .before .before .before .before .before .before .args .bytes)) (now (c .before .before .before .before .before .before .before .before .args .volume)) (c .before .before .before .before .before .before .before .before .args .layout) (c .before .before .before .before .before .before .before .before .pre .0) (c .before .before .before .before .before .before .before .before .pre .1) (c .before .before .found .given .1) (c .before .before .before .before .find-node .ensures))
-
-is-directory-requires : tie.Need-is-directory-requires
-is-directory-requires c κs = search needs
+    (c .before .before .before .before .before .before .before .before .pre .0, file-place (c .before .before .before .before .before .before .before .before .args .node) (shown (now (c .before .before .before .before .before .before .before .before .args .volume))) (c .before .before .file .given .1) (c .before .before .before .before .find-file .ensures))
 
 same-length-2 : tie.Need-same-length-2
 same-length-2 c = search needs
 
 returns-2 : tie.Need-returns-2
 returns-2 c =
-    write-directory (c .before .before .before .before .before .before .before .before .before .before .before .args .node) (c .before .before .before .before .before .before .before .before .before .before .before .args .offset) (now (c .before .before .before .before .before .before .before .before .before .before .before .args .bytes)) (now (c .before .before .before .before .before .before .before .before .before .before .before .args .volume)) (c .before .before .before .before .before .before .before .before .before .before .before .args .layout) (c .before .before .before .before .before .before .before .before .before .before .before .pre .0) (c .before .before .before .before .before .before .before .before .before .before .before .pre .1) (c .before .before .before .before .before .found .given .1) (c .before .before .before .before .before .before .before .find-node .ensures) (c .before .before .node-row .ensures) (c .before .is-directory .ensures) (c .if1 .taken)
-
-same-length-3 : tie.Need-same-length-3
-same-length-3 c = search needs
-
-returns-3 : tie.Need-returns-3
-returns-3 c =
-    write-none (c .before .before .before .before .before .before .before .before .before .before .before .before .args .node) (c .before .before .before .before .before .before .before .before .before .before .before .before .args .offset) (now (c .before .before .before .before .before .before .before .before .before .before .before .before .args .bytes)) (now (c .before .before .before .before .before .before .before .before .before .before .before .before .args .volume)) (c .before .before .before .before .before .before .before .before .before .before .before .before .args .layout) (c .before .before .before .before .before .before .before .before .before .before .before .before .pre .0) (c .before .before .before .before .before .before .before .before .before .before .before .before .pre .1) (c .before .before .before .before .before .before .found .given .1) (c .before .before .before .before .before .before .before .before .find-node .ensures) (c .before .before .before .node-row .ensures) (c .before .before .is-directory .ensures) (c .before .if1 .left) (c .if2 .taken)
+    write-none (c .before .before .before .before .before .before .before .before .before .before .args .node) (c .before .before .before .before .before .before .before .before .before .before .args .offset) (now (c .before .before .before .before .before .before .before .before .before .before .args .bytes)) (now (c .before .before .before .before .before .before .before .before .before .before .args .volume)) (c .before .before .before .before .before .before .before .before .before .before .args .layout) (c .before .before .before .before .before .before .before .before .before .before .pre .0) (c .before .before .before .before .before .before .before .before .before .before .pre .1) (c .before .before .before .before .file .given .1) (c .before .before .before .before .before .before .find-file .ensures) (c .before .node-row .ensures) (c .if1 .taken)
 
 file-limit-requires : tie.Need-file-limit-requires
 file-limit-requires c κs = search needs
@@ -48,71 +40,68 @@ file-limit-requires c κs = search needs
 exceeds-requires : tie.Need-exceeds-requires
 exceeds-requires c κs = search needs
 
+same-length-3 : tie.Need-same-length-3
+same-length-3 c = search needs
+
+returns-3 : tie.Need-returns-3
+returns-3 c =
+    write-above (c .before .before .before .before .before .before .before .before .before .before .before .before .before .args .node) (c .before .before .before .before .before .before .before .before .before .before .before .before .before .args .offset) (now (c .before .before .before .before .before .before .before .before .before .before .before .before .before .args .bytes)) (now (c .before .before .before .before .before .before .before .before .before .before .before .before .before .args .volume)) (c .before .before .before .before .before .before .before .before .before .before .before .before .before .args .layout) (c .before .before .before .before .before .before .before .before .before .before .before .before .before .pre .0) (c .before .before .before .before .before .before .before .before .before .before .before .before .before .pre .1) (c .before .before .before .before .before .before .before .file .given .1) (c .before .before .before .before .before .before .before .before .before .find-file .ensures) (c .before .before .before .before .node-row .ensures) (c .before .before .before .if1 .left) (c .before .before .file-limit .ensures) (c .before .exceeds .ensures) (c .if2 .taken)
+
+is-cramped-requires : tie.Need-is-cramped-requires
+is-cramped-requires c κs =
+    room-asked (c .before .before .before .before .before .before .before .before .before .before .before .before .before .before .args .node) (c .before .before .before .before .before .before .before .before .before .before .before .before .before .before .args .offset) (now (c .before .before .before .before .before .before .before .before .before .before .before .before .before .before .args .bytes)) (now (c .before .before .before .before .before .before .before .before .before .before .before .before .before .before .args .volume)) (c .before .before .before .before .before .before .before .before .before .before .before .before .before .before .args .layout) (c .before .before .before .before .before .before .before .before .before .before .before .before .before .before .pre .0) (c .before .before .before .before .before .before .before .before .before .before .before .before .before .before .pre .1) (c .before .before .before .before .before .before .before .before .file .given .1) (c .before .before .before .before .before .before .before .before .before .before .find-file .ensures) (c .before .before .before .before .before .node-row .ensures) (c .before .before .before .before .if1 .left) (c .before .before .before .file-limit .ensures) (c .before .before .exceeds .ensures) (c .before .if2 .left)
+
 same-length-4 : tie.Need-same-length-4
 same-length-4 c = search needs
 
 returns-4 : tie.Need-returns-4
 returns-4 c =
-    write-above (c .before .before .before .before .before .before .before .before .before .before .before .before .before .before .before .args .node) (c .before .before .before .before .before .before .before .before .before .before .before .before .before .before .before .args .offset) (now (c .before .before .before .before .before .before .before .before .before .before .before .before .before .before .before .args .bytes)) (now (c .before .before .before .before .before .before .before .before .before .before .before .before .before .before .before .args .volume)) (c .before .before .before .before .before .before .before .before .before .before .before .before .before .before .before .args .layout) (c .before .before .before .before .before .before .before .before .before .before .before .before .before .before .before .pre .0) (c .before .before .before .before .before .before .before .before .before .before .before .before .before .before .before .pre .1) (c .before .before .before .before .before .before .before .before .before .found .given .1) (c .before .before .before .before .before .before .before .before .before .before .before .find-node .ensures) (c .before .before .before .before .before .before .node-row .ensures) (c .before .before .before .before .before .is-directory .ensures) (c .before .before .before .before .if1 .left) (c .before .before .before .if2 .left) (c .before .before .file-limit .ensures) (c .before .exceeds .ensures) (c .if3 .taken)
-
-is-cramped-requires : tie.Need-is-cramped-requires
-is-cramped-requires c κs =
-    room-asked (c .before .before .before .before .before .before .before .before .before .before .before .before .before .before .before .before .args .node) (c .before .before .before .before .before .before .before .before .before .before .before .before .before .before .before .before .args .offset) (now (c .before .before .before .before .before .before .before .before .before .before .before .before .before .before .before .before .args .bytes)) (now (c .before .before .before .before .before .before .before .before .before .before .before .before .before .before .before .before .args .volume)) (c .before .before .before .before .before .before .before .before .before .before .before .before .before .before .before .before .args .layout) (c .before .before .before .before .before .before .before .before .before .before .before .before .before .before .before .before .pre .0) (c .before .before .before .before .before .before .before .before .before .before .before .before .before .before .before .before .pre .1) (c .before .before .before .before .before .before .before .before .before .before .found .given .1) (c .before .before .before .before .before .before .before .before .before .before .before .before .find-node .ensures) (c .before .before .before .before .before .before .before .node-row .ensures) (c .before .before .before .before .before .before .is-directory .ensures) (c .before .before .before .before .before .if1 .left) (c .before .before .before .before .if2 .left) (c .before .before .before .file-limit .ensures) (c .before .before .exceeds .ensures) (c .before .if3 .left)
-
-same-length-5 : tie.Need-same-length-5
-same-length-5 c = search needs
-
-returns-5 : tie.Need-returns-5
-returns-5 c =
-    write-cramped (c .before .before .before .before .before .before .before .before .before .before .before .before .before .before .before .before .before .before .args .node) (c .before .before .before .before .before .before .before .before .before .before .before .before .before .before .before .before .before .before .args .offset) (now (c .before .before .before .before .before .before .before .before .before .before .before .before .before .before .before .before .before .before .args .bytes)) (now (c .before .before .before .before .before .before .before .before .before .before .before .before .before .before .before .before .before .before .args .volume)) (c .before .before .before .before .before .before .before .before .before .before .before .before .before .before .before .before .before .before .args .layout) (c .before .before .before .before .before .before .before .before .before .before .before .before .before .before .before .before .before .before .pre .0) (c .before .before .before .before .before .before .before .before .before .before .before .before .before .before .before .before .before .before .pre .1) (c .before .before .before .before .before .before .before .before .before .before .before .before .found .given .1) (c .before .before .before .before .before .before .before .before .before .before .before .before .before .before .find-node .ensures) (c .before .before .before .before .before .before .before .before .before .node-row .ensures) (c .before .before .before .before .before .before .before .before .is-directory .ensures) (c .before .before .before .before .before .before .before .if1 .left) (c .before .before .before .before .before .before .if2 .left) (c .before .before .before .before .before .file-limit .ensures) (c .before .before .before .before .exceeds .ensures) (c .before .before .before .if3 .left) (c .before .is-cramped .ensures) (c .if4 .taken)
+    write-cramped (c .before .before .before .before .before .before .before .before .before .before .before .before .before .before .before .before .args .node) (c .before .before .before .before .before .before .before .before .before .before .before .before .before .before .before .before .args .offset) (now (c .before .before .before .before .before .before .before .before .before .before .before .before .before .before .before .before .args .bytes)) (now (c .before .before .before .before .before .before .before .before .before .before .before .before .before .before .before .before .args .volume)) (c .before .before .before .before .before .before .before .before .before .before .before .before .before .before .before .before .args .layout) (c .before .before .before .before .before .before .before .before .before .before .before .before .before .before .before .before .pre .0) (c .before .before .before .before .before .before .before .before .before .before .before .before .before .before .before .before .pre .1) (c .before .before .before .before .before .before .before .before .before .before .file .given .1) (c .before .before .before .before .before .before .before .before .before .before .before .before .find-file .ensures) (c .before .before .before .before .before .before .before .node-row .ensures) (c .before .before .before .before .before .before .if1 .left) (c .before .before .before .before .before .file-limit .ensures) (c .before .before .before .before .exceeds .ensures) (c .before .before .before .if2 .left) (c .before .is-cramped .ensures) (c .if3 .taken)
 
 write-chunks-v2-requires : tie.Need-write-chunks-v2-requires
 write-chunks-v2-requires c κs =
-    chunks-asked (c .before .before .before .before .before .before .before .before .before .before .before .before .before .before .before .before .before .before .before .args .node) (c .before .before .before .before .before .before .before .before .before .before .before .before .before .before .before .before .before .before .before .args .offset) (now (c .before .before .before .before .before .before .before .before .before .before .before .before .before .before .before .before .before .before .before .args .bytes)) (now (c .before .before .before .before .before .before .before .before .before .before .before .before .before .before .before .before .before .before .before .args .volume)) (c .before .before .before .before .before .before .before .before .before .before .before .before .before .before .before .before .before .before .before .args .layout) (c .before .before .before .before .before .before .before .before .before .before .before .before .before .before .before .before .before .before .before .pre .0) (c .before .before .before .before .before .before .before .before .before .before .before .before .before .before .before .before .before .before .before .pre .1) (c .before .before .before .before .before .before .before .before .before .before .before .before .before .found .given .1) (c .before .before .before .before .before .before .before .before .before .before .before .before .before .before .before .find-node .ensures) (c .before .before .before .before .before .before .before .before .before .before .node-row .ensures) (c .before .before .before .before .before .before .before .before .before .is-directory .ensures) (c .before .before .before .before .before .before .before .before .if1 .left) (c .before .before .before .before .before .before .before .if2 .left) (c .before .before .before .before .before .before .file-limit .ensures) (c .before .before .before .before .before .exceeds .ensures) (c .before .before .before .before .if3 .left) (c .before .before .is-cramped .ensures) (c .before .if4 .left)
+    chunks-asked (c .before .before .before .before .before .before .before .before .before .before .before .before .before .before .before .before .before .args .node) (c .before .before .before .before .before .before .before .before .before .before .before .before .before .before .before .before .before .args .offset) (now (c .before .before .before .before .before .before .before .before .before .before .before .before .before .before .before .before .before .args .bytes)) (now (c .before .before .before .before .before .before .before .before .before .before .before .before .before .before .before .before .before .args .volume)) (c .before .before .before .before .before .before .before .before .before .before .before .before .before .before .before .before .before .args .layout) (c .before .before .before .before .before .before .before .before .before .before .before .before .before .before .before .before .before .pre .0) (c .before .before .before .before .before .before .before .before .before .before .before .before .before .before .before .before .before .pre .1) (c .before .before .before .before .before .before .before .before .before .before .before .file .given .1) (c .before .before .before .before .before .before .before .before .before .before .before .before .before .find-file .ensures) (c .before .before .before .before .before .before .before .before .node-row .ensures) (c .before .before .before .before .before .before .before .if1 .left) (c .before .before .before .before .before .before .file-limit .ensures) (c .before .before .before .before .before .exceeds .ensures) (c .before .before .before .before .if2 .left) (c .before .before .is-cramped .ensures) (c .before .if3 .left)
 
 add-end : tie.Need-add-end
 add-end c =
-    omega (arith, chunks-asked (c .before .before .before .before .before .before .before .before .before .before .before .before .before .before .before .before .before .before .before .before .before .before .args .node) (c .before .before .before .before .before .before .before .before .before .before .before .before .before .before .before .before .before .before .before .before .before .before .args .offset) (now (c .before .before .before .before .before .before .before .before .before .before .before .before .before .before .before .before .before .before .before .before .before .before .args .bytes)) (now (c .before .before .before .before .before .before .before .before .before .before .before .before .before .before .before .before .before .before .before .before .before .before .args .volume)) (c .before .before .before .before .before .before .before .before .before .before .before .before .before .before .before .before .before .before .before .before .before .before .args .layout) (c .before .before .before .before .before .before .before .before .before .before .before .before .before .before .before .before .before .before .before .before .before .before .pre .0) (c .before .before .before .before .before .before .before .before .before .before .before .before .before .before .before .before .before .before .before .before .before .before .pre .1) (c .before .before .before .before .before .before .before .before .before .before .before .before .before .before .before .before .found .given .1) (c .before .before .before .before .before .before .before .before .before .before .before .before .before .before .before .before .before .before .find-node .ensures) (c .before .before .before .before .before .before .before .before .before .before .before .before .before .node-row .ensures) (c .before .before .before .before .before .before .before .before .before .before .before .before .is-directory .ensures) (c .before .before .before .before .before .before .before .before .before .before .before .if1 .left) (c .before .before .before .before .before .before .before .before .before .before .if2 .left) (c .before .before .before .before .before .before .before .before .before .file-limit .ensures) (c .before .before .before .before .before .before .before .before .exceeds .ensures) (c .before .before .before .before .before .before .before .if3 .left) (c .before .before .before .before .before .is-cramped .ensures) (c .before .before .before .before .if4 .left) .3)
+    omega (arith, chunks-asked (c .before .before .before .before .before .before .before .before .before .before .before .before .before .before .before .before .before .before .before .before .args .node) (c .before .before .before .before .before .before .before .before .before .before .before .before .before .before .before .before .before .before .before .before .args .offset) (now (c .before .before .before .before .before .before .before .before .before .before .before .before .before .before .before .before .before .before .before .before .args .bytes)) (now (c .before .before .before .before .before .before .before .before .before .before .before .before .before .before .before .before .before .before .before .before .args .volume)) (c .before .before .before .before .before .before .before .before .before .before .before .before .before .before .before .before .before .before .before .before .args .layout) (c .before .before .before .before .before .before .before .before .before .before .before .before .before .before .before .before .before .before .before .before .pre .0) (c .before .before .before .before .before .before .before .before .before .before .before .before .before .before .before .before .before .before .before .before .pre .1) (c .before .before .before .before .before .before .before .before .before .before .before .before .before .before .file .given .1) (c .before .before .before .before .before .before .before .before .before .before .before .before .before .before .before .before .find-file .ensures) (c .before .before .before .before .before .before .before .before .before .before .before .node-row .ensures) (c .before .before .before .before .before .before .before .before .before .before .if1 .left) (c .before .before .before .before .before .before .before .before .before .file-limit .ensures) (c .before .before .before .before .before .before .before .before .exceeds .ensures) (c .before .before .before .before .before .before .before .if2 .left) (c .before .before .before .before .before .is-cramped .ensures) (c .before .before .before .before .if3 .left) .3)
 
 greater-requires : tie.Need-greater-requires
 greater-requires c κs = search needs
 
 set-size-requires : tie.Need-set-size-requires
 set-size-requires c κs =
-    size-asked (c .before .before .before .before .before .before .before .before .before .before .before .before .before .before .before .before .before .before .before .before .before .before .before .before .args .node) (c .before .before .before .before .before .before .before .before .before .before .before .before .before .before .before .before .before .before .before .before .before .before .before .before .args .offset) (now (c .before .before .before .before .before .before .before .before .before .before .before .before .before .before .before .before .before .before .before .before .before .before .before .before .args .bytes)) (now (c .before .before .before .before .before .before .before .before .before .before .before .before .before .before .before .before .before .before .before .before .before .before .before .before .args .volume)) (c .before .before .before .before .before .before .before .before .before .before .before .before .before .before .before .before .before .before .before .before .before .before .before .before .args .layout) (c .before .before .before .before .before .before .before .before .before .before .before .before .before .before .before .before .before .before .before .before .before .before .before .before .pre .0) (c .before .before .before .before .before .before .before .before .before .before .before .before .before .before .before .before .before .before .before .before .before .before .before .before .pre .1) (c .before .before .before .before .before .before .before .before .before .before .before .before .before .before .before .before .before .before .found .given .1) (c .before .before .before .before .before .before .before .before .before .before .before .before .before .before .before .before .before .before .before .before .find-node .ensures) (c .before .before .before .before .before .before .before .before .before .before .before .before .before .before .before .node-row .ensures) (c .before .before .before .before .before .before .before .before .before .before .before .before .before .before .is-directory .ensures) (c .before .before .before .before .before .before .before .before .before .before .before .before .before .if1 .left) (c .before .before .before .before .before .before .before .before .before .before .before .before .if2 .left) (c .before .before .before .before .before .before .before .before .before .before .before .file-limit .ensures) (c .before .before .before .before .before .before .before .before .before .before .exceeds .ensures) (c .before .before .before .before .before .before .before .before .before .if3 .left) (c .before .before .before .before .before .before .before .is-cramped .ensures) (c .before .before .before .before .before .before .if4 .left) (c .before .before .before .before .write-chunks-v2 .ensures)
+    size-asked (c .before .before .before .before .before .before .before .before .before .before .before .before .before .before .before .before .before .before .before .before .before .before .args .node) (c .before .before .before .before .before .before .before .before .before .before .before .before .before .before .before .before .before .before .before .before .before .before .args .offset) (now (c .before .before .before .before .before .before .before .before .before .before .before .before .before .before .before .before .before .before .before .before .before .before .args .bytes)) (now (c .before .before .before .before .before .before .before .before .before .before .before .before .before .before .before .before .before .before .before .before .before .before .args .volume)) (c .before .before .before .before .before .before .before .before .before .before .before .before .before .before .before .before .before .before .before .before .before .before .args .layout) (c .before .before .before .before .before .before .before .before .before .before .before .before .before .before .before .before .before .before .before .before .before .before .pre .0) (c .before .before .before .before .before .before .before .before .before .before .before .before .before .before .before .before .before .before .before .before .before .before .pre .1) (c .before .before .before .before .before .before .before .before .before .before .before .before .before .before .before .before .file .given .1) (c .before .before .before .before .before .before .before .before .before .before .before .before .before .before .before .before .before .before .find-file .ensures) (c .before .before .before .before .before .before .before .before .before .before .before .before .before .node-row .ensures) (c .before .before .before .before .before .before .before .before .before .before .before .before .if1 .left) (c .before .before .before .before .before .before .before .before .before .before .before .file-limit .ensures) (c .before .before .before .before .before .before .before .before .before .before .exceeds .ensures) (c .before .before .before .before .before .before .before .before .before .if2 .left) (c .before .before .before .before .before .before .before .is-cramped .ensures) (c .before .before .before .before .before .before .if3 .left) (c .before .before .before .before .write-chunks-v2 .ensures)
 
-same-length-6 : tie.Need-same-length-6
-same-length-6 c = search needs
+same-length-5 : tie.Need-same-length-5
+same-length-5 c = search needs
 
-returns-6 : tie.Need-returns-6
-returns-6 c =
-    write-done (c .before .before .before .before .before .before .before .before .before .before .before .before .before .before .before .before .before .before .before .before .before .before .before .before .before .before .before .args .node) (c .before .before .before .before .before .before .before .before .before .before .before .before .before .before .before .before .before .before .before .before .before .before .before .before .before .before .before .args .offset) (now (c .before .before .before .before .before .before .before .before .before .before .before .before .before .before .before .before .before .before .before .before .before .before .before .before .before .before .before .args .bytes)) (now (c .before .before .before .before .before .before .before .before .before .before .before .before .before .before .before .before .before .before .before .before .before .before .before .before .before .before .before .args .volume)) (c .before .before .before .before .before .before .before .before .before .before .before .before .before .before .before .before .before .before .before .before .before .before .before .before .before .before .before .args .layout) (c .before .before .before .before .before .before .before .before .before .before .before .before .before .before .before .before .before .before .before .before .before .before .before .before .before .before .before .pre .0) (c .before .before .before .before .before .before .before .before .before .before .before .before .before .before .before .before .before .before .before .before .before .before .before .before .before .before .before .pre .1) (c .before .before .before .before .before .before .before .before .before .before .before .before .before .before .before .before .before .before .before .before .before .found .given .1) (c .before .before .before .before .before .before .before .before .before .before .before .before .before .before .before .before .before .before .before .before .before .before .before .find-node .ensures) (c .before .before .before .before .before .before .before .before .before .before .before .before .before .before .before .before .before .before .node-row .ensures) (c .before .before .before .before .before .before .before .before .before .before .before .before .before .before .before .before .before .is-directory .ensures) (c .before .before .before .before .before .before .before .before .before .before .before .before .before .before .before .before .if1 .left) (c .before .before .before .before .before .before .before .before .before .before .before .before .before .before .before .if2 .left) (c .before .before .before .before .before .before .before .before .before .before .before .before .before .before .file-limit .ensures) (c .before .before .before .before .before .before .before .before .before .before .before .before .before .exceeds .ensures) (c .before .before .before .before .before .before .before .before .before .before .before .before .if3 .left) (c .before .before .before .before .before .before .before .before .before .before .is-cramped .ensures) (c .before .before .before .before .before .before .before .before .before .if4 .left) (c .before .before .before .before .before .before .before .write-chunks-v2 .ensures) (c .before .before .before .greater .ensures) (c .before .before .set-size .ensures)
+returns-5 : tie.Need-returns-5
+returns-5 c =
+    write-done (c .before .before .before .before .before .before .before .before .before .before .before .before .before .before .before .before .before .before .before .before .before .before .before .before .before .args .node) (c .before .before .before .before .before .before .before .before .before .before .before .before .before .before .before .before .before .before .before .before .before .before .before .before .before .args .offset) (now (c .before .before .before .before .before .before .before .before .before .before .before .before .before .before .before .before .before .before .before .before .before .before .before .before .before .args .bytes)) (now (c .before .before .before .before .before .before .before .before .before .before .before .before .before .before .before .before .before .before .before .before .before .before .before .before .before .args .volume)) (c .before .before .before .before .before .before .before .before .before .before .before .before .before .before .before .before .before .before .before .before .before .before .before .before .before .args .layout) (c .before .before .before .before .before .before .before .before .before .before .before .before .before .before .before .before .before .before .before .before .before .before .before .before .before .pre .0) (c .before .before .before .before .before .before .before .before .before .before .before .before .before .before .before .before .before .before .before .before .before .before .before .before .before .pre .1) (c .before .before .before .before .before .before .before .before .before .before .before .before .before .before .before .before .before .before .before .file .given .1) (c .before .before .before .before .before .before .before .before .before .before .before .before .before .before .before .before .before .before .before .before .before .find-file .ensures) (c .before .before .before .before .before .before .before .before .before .before .before .before .before .before .before .before .node-row .ensures) (c .before .before .before .before .before .before .before .before .before .before .before .before .before .before .before .if1 .left) (c .before .before .before .before .before .before .before .before .before .before .before .before .before .before .file-limit .ensures) (c .before .before .before .before .before .before .before .before .before .before .before .before .before .exceeds .ensures) (c .before .before .before .before .before .before .before .before .before .before .before .before .if2 .left) (c .before .before .before .before .before .before .before .before .before .before .is-cramped .ensures) (c .before .before .before .before .before .before .before .before .before .if3 .left) (c .before .before .before .before .before .before .before .write-chunks-v2 .ensures) (c .before .before .before .greater .ensures) (c .before .before .set-size .ensures)
 
 pub write-spec : {M : Type 1} → statement M
 write-spec =
     tie.close
     (tie.spec
-    find-node-requires
-    enum-known-found
-    enum-told
+    find-file-requires
+    enum-known-file
+    enum-known-file-2
     same-length
     returns
     node-row-requires
-    is-directory-requires
     same-length-2
     returns-2
-    same-length-3
-    returns-3
     file-limit-requires
     exceeds-requires
+    same-length-3
+    returns-3
+    is-cramped-requires
     same-length-4
     returns-4
-    is-cramped-requires
-    same-length-5
-    returns-5
     write-chunks-v2-requires
     add-end
     greater-requires
     set-size-requires
-    same-length-6
-    returns-6)
+    same-length-5
+    returns-5)
