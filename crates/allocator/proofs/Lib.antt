@@ -4,3 +4,4 @@ pub mod Steps
 pub mod Opened
 pub mod Accounts
 pub mod Counted
+pub mod Allocated

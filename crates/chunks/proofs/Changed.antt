@@ -14,6 +14,7 @@ use Rattle.words.specs.Rule.{pick}
 use Rattle.words.specs.Table.{Each, Asc, find}
 use Rattle.words.proofs.Rules.{Says, holds, fails, says-eqb}
 use Rattle.words.proofs.Order.{each-at, each-map}
+use Rattle.words.proofs.FoundRows.{found-passes}
 use Rattle.types.specs.declared.NodeRecord.{NodeRecord}
 use Rattle.volume.specs.Rows.{readNode}
 use Rattle.volume.specs.Volume.{Volume}
@@ -22,7 +23,6 @@ use Rattle.volume.specs.Steps.{changed}
 use Rattle.tables.specs.Tables.{nodeAt, foundNode}
 use Rattle.tables.specs.declared.Found.the-variants.{At}
 use Rattle.tables.proofs.Finds.{node-found}
-use Rattle.chunks.proofs.FoundRows.{found-passes}
 
 pub node-is : (n : ℕ) (v : Volume) (r : NodeRecord) → node n v ≡ some r → r .node ≡ n
 unfolding node

@@ -1,8 +1,8 @@
 -- The chunks of rows freed one after another, and the rows taken out behind that: from the bytes that the steps leave.
 -- Assumes nothing.
 use mathlib.Core.Path.{_≡_, refl, sym, ap, _∙_}
-use mathlib.Core.List.{List, [], _∷_, _++_, map}
-use Prim.Native.Nat.{ℕ, _+_, _-_, _≤_, _<_}
+use mathlib.Core.List.{List, [], _∷_, _++_, map, map-append}
+use Prim.Native.Nat.{ℕ, _+_, _≤_, _<_}
 use native.Mathlib.Numerals.{add-one}
 use native.Mathlib.Omega.{arith}
 use lib.ListN.{length, take, drop, length-map, length-drop}
@@ -25,10 +25,6 @@ use Rattle.chunks.proofs.Stored.{good-stored}
 use Rattle.chunks.proofs.Released.{freed-all, release-last, pointers-small, released-fits}
 use Rattle.chunks.proofs.Cut.{rows-and-free, cut-fits}
 use Rattle.chunks.proofs.Runs.{ofNode, run-goes, run-stays, run-ends}
-
-map-last : {R : Type 0} (f : R → ℕ) (rs : List R) (r : R) → map f (rs ++ (r ∷ [])) ≡ map f rs ++ (f r ∷ [])
-map-last f [] r = refl
-map-last f (s ∷ rs) r = ap (λ (l : List ℕ). f s ∷ l) (map-last f rs r)
 
 -- the pointers of i rows from row first on
 abbrev pub pointers : List ℕ → ℕ → ℕ → List ℕ
@@ -77,7 +73,7 @@ module _ (l : List ℕ) (y : Layout) (r : Ready l y) (first n : ℕ) (inside : f
 
         one-more : release (chunkAt (shown l .chunks) (first + i) .pointer) (released (pointers l first i) (shown l .allocator)) ≡ released (pointers l first (i + 1)) (shown l .allocator)
         one-more =
-            sym (ap (λ ps. released ps (shown l .allocator)) (ap (map (λ c. c .pointer)) row ∙ map-last (λ c. c .pointer) (take i cs) (chunkAt (shown l .chunks) (first + i)))
+            sym (ap (λ ps. released ps (shown l .allocator)) (ap (map (λ c. c .pointer)) row ∙ map-append (λ c. c .pointer) (take i cs) (chunkAt (shown l .chunks) (first + i) ∷ []))
             ∙ release-last (pointers l first i) (chunkAt (shown l .chunks) (first + i) .pointer) (shown l .allocator))
 
 -- all of them

@@ -12,6 +12,7 @@ use Rattle.words.proofs.Order.{each-insert}
 use Rattle.allocator.specs.Allocator.{allocate, wordsOf}
 use Rattle.allocator.proofs.Sized.{accepted-bounds}
 use Rattle.allocator.proofs.Laid as AllocatorLaid
+use Rattle.allocator.proofs.Allocated.{Rest, allocate-rest, allocate-count}
 use Rattle.volume.specs.declared.ChunkRow.{ChunkRow}
 use Rattle.volume.specs.Search.{chunkUnder}
 use Rattle.volume.specs.Volume.{Volume, withAllocator, withChunks}
@@ -20,7 +21,6 @@ use Rattle.volume.proofs.Frames.{fits-allocator, fits-chunks, fits-bytes}
 use Rattle.chunks.specs.Content.{chunk}
 use Rattle.chunks.specs.Store.{room, hole, taken, ensured, ensuredFor, put, putFor, writeChunk, writeChunks}
 use Rattle.chunks.specs.Write.{written}
-use Rattle.chunks.proofs.Allocated.{Rest, allocate-rest, allocate-count}
 use Rattle.chunks.specs.Stored.{Stored}
 use Rattle.chunks.proofs.TakenChunk.{newRow, given-below, taken-long, taken-stored}
 

@@ -1,15 +1,16 @@
 -- Chunk after chunk: where the row of the next index is, and the loop that writes them.
 -- Assumes nothing.
 use mathlib.Core.Path.{_≡_, refl, sym, ap, _∙_}
-use mathlib.Core.Bool.{Bool, true, false}
 use mathlib.Core.Logic.{inl, inr}
-use mathlib.Core.List.{List, [], _∷_}
+use mathlib.Core.List.{List}
 use mathlib.Core.Option.{Option, none, some}
 use Prim.Native.Nat.{ℕ, suc, _+_, _-_, _*_, _/_, _^_, _≤_, _<_}
 use native.Mathlib.Nat.{add-zero, sub-zero}
 use native.Mathlib.Omega.{arith}
 use lib.ListN.{length}
-use Rattle.words.specs.Table.{lead, leadOf, insertAt}
+use Rattle.words.specs.Table.{lead}
+use Rattle.words.proofs.Rules.{false-says}
+use Rattle.words.proofs.Search.{lead-insert}
 use Rattle.volume.specs.declared.Layout.{Layout}
 use Rattle.volume.specs.declared.ChunkRow.{ChunkRow}
 use Rattle.volume.specs.Search.{chunkUnder}
@@ -20,7 +21,7 @@ use Rattle.chunks.specs.Content.{chunk}
 use Rattle.chunks.specs.Store.{room, hole, taken, ensured, ensuredFor, writeChunk, writeChunks}
 use Rattle.chunks.specs.Write.{numOf, holes, written}
 use Rattle.chunks.specs.Stored.{Stored}
-use Rattle.chunks.proofs.Cursor.{says-under, false-says}
+use Rattle.chunks.proofs.Cursor.{says-under}
 use Rattle.chunks.proofs.HoleCount.{hole-lead}
 use Rattle.chunks.proofs.KeptFields.{kept-writeChunk}
 use Rattle.chunks.proofs.PutPiece.{Touched, put-rows}
@@ -30,16 +31,6 @@ use Rattle.chunks.proofs.WrittenBytes.{written-writable}
 use Rattle.chunks.proofs.WrittenChunks.{Writable, first-touched, first-enough, next-writable, writeChunk-stored, writeChunk-found, fits-writeChunk}
 
 -- ---- the row of the next index
-
--- a row put in where the test first fails, and the test fails on it: it first fails there
-lead-insert : {R : Type 0} (f : R → Bool) (r : R) (rs : List R) → f r ≡ false → lead f (insertAt (lead f rs) r rs) ≡ lead f rs
-unfolding lead leadOf insertAt
-lead-insert f r [] e = rw e
-lead-insert f r (s ∷ rs) e = go (f s) refl (lead-insert f r rs e)
-  where
-    go : (b : Bool) → f s ≡ b → lead f (insertAt (lead f rs) r rs) ≡ lead f rs → lead f (insertAt (leadOf b (lead f rs)) r (s ∷ rs)) ≡ leadOf b (lead f rs)
-    go true q h = rw q (ap suc h)
-    go false q h = rw e
 
 not-before : (n k : ℕ) → PairBefore n k n k → ⊥
 not-before n k (inl h) = omega arith

@@ -2,16 +2,14 @@ pub mod Content
 pub mod Cursor
 pub mod Inside
 pub mod Pieces
-pub mod FoundRows
 pub mod Changed
 pub mod GoodParts
 pub mod Changing
 pub mod Given
 pub mod Limited
 pub mod Stored
-pub mod Fills
+pub mod RoomCount
 pub mod Puts
-pub mod Allocated
 pub mod RowPlaces
 pub mod TakenChunk
 pub mod EnsuredChunk

@@ -12,7 +12,7 @@ use lib.ListN.{length, set}
 use borrow.Author.Tests.{lt-ltb, le-ltb}
 use Rattle.words.specs.Rule.{pick}
 use Rattle.words.specs.Table.{Asc}
-use Rattle.words.proofs.Rules.{Says, holds, fails, says-ltb, pick-true, pick-false}
+use Rattle.words.proofs.Rules.{Says, fails, says-ltb, pick-true, pick-false}
 use Rattle.words.proofs.Order.{each-map}
 use Rattle.types.specs.Sizes.{mostSize}
 use Rattle.types.specs.Nodes.{kindByte, limitWord, fileLimit}

@@ -11,6 +11,7 @@ use lib.ListN.{length, take, drop}
 use Rattle.words.specs.Bytes.{part, over}
 use Rattle.words.specs.Rule.{both}
 use Rattle.words.specs.Table.{lead}
+use Rattle.words.proofs.Written.{length-lent}
 use Rattle.allocator.specs.Allocator.{allocate}
 use Rattle.volume.specs.declared.ChunkRow.{ChunkRow}
 use Rattle.volume.specs.Search.{chunkUnder}
@@ -21,7 +22,6 @@ use Rattle.chunks.specs.Store.{room, hole, taken, ensured, ensuredFor, l
 use Rattle.chunks.specs.Stored.{Stored}
 use Rattle.chunks.proofs.Cursor.{row-yes, row-no}
 use Rattle.chunks.proofs.KeptFields.{kept-taken}
-use Rattle.chunks.proofs.Pieces.{length-lent}
 use Rattle.chunks.proofs.PutPiece.{Touched, put-is}
 use Rattle.chunks.proofs.RowPlaces.{row-inside-found}
 use Rattle.chunks.proofs.TakenChunk.{newRow, taken-here, taken-stored}

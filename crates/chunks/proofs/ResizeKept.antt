@@ -9,6 +9,7 @@ use native.Mathlib.Omega.{arith}
 use lib.Dec.{eqb, ltb}
 use Rattle.words.specs.Rule.{pick}
 use Rattle.words.proofs.Rules.{Says, holds, fails, says-ltb}
+use Rattle.words.proofs.FoundRows.{found-each}
 use Rattle.types.specs.Nodes.{kindByte, fileLimit}
 use Rattle.types.specs.Answers.{value}
 use Rattle.types.specs.declared.Answer.the-variants.{Done, Refused}
@@ -16,6 +17,7 @@ use Rattle.types.specs.declared.Error.{Error}
 use Rattle.types.specs.declared.Error.the-variants.{NoSuchEntry, IsDirectory, FileTooLarge, NoChunkRoom}
 use Rattle.types.specs.declared.FileType.the-variants.{Directory}
 use Rattle.types.specs.declared.NodeRecord.{NodeRecord}
+use Rattle.types.proofs.Bytes.{limit-most}
 use Rattle.volume.specs.declared.ChunkRow.{ChunkRow}
 use Rattle.volume.specs.Volume.{Volume}
 use Rattle.volume.specs.Framed.{NodeFits, Fits}
@@ -28,9 +30,7 @@ use Rattle.chunks.specs.Resize.{cramped, shrunk, resizeFor, resize}
 use Rattle.chunks.specs.Stored.{Stored}
 use Rattle.chunks.specs.Posix.{fileOf, ExtensionShowsZero}
 use Rattle.chunks.proofs.Stored.{good-stored}
-use Rattle.chunks.proofs.FoundRows.{found-each}
 use Rattle.chunks.proofs.Changed.{node-is}
-use Rattle.chunks.proofs.Changing.{limit-most}
 use Rattle.chunks.proofs.OwnedContent.{Reached, zero-above, owned-reached}
 use Rattle.chunks.proofs.SizeSet.{Reshaped, sized-byte, sized-here, sized-other, sized-kept}
 use Rattle.chunks.proofs.ShrunkBytes.{shrunk-nodes, shrunk-entries, shrunk-next, shrunk-size, shrunk-stored, shrunk-fits, shrunk-rows, shrunk-below, shrunk-other, shrunk-low, shrunk-high}

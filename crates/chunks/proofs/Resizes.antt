@@ -1,27 +1,30 @@
 -- The steps of a resize, from the bytes that they leave.
 -- Assumes nothing.
 use mathlib.Core.Path.{_≡_, refl, sym, ap, _∙_}
-use mathlib.Core.Bool.{Bool, true, false, not, true≢false}
-use mathlib.Core.List.{List, [], _∷_, _++_, append-nil}
+use mathlib.Core.Bool.{Bool, true, false, not}
+use mathlib.Core.List.{List, [], _++_}
 use mathlib.Core.Option.{none, some}
-use Prim.Native.Nat.{ℕ, zero, suc, _+_, _-_, _*_, _/_, _%_, _^_, _≤_, _<_}
-use native.Mathlib.Nat.{not-suc-le-zero, le-of-suc-le-suc, mod-lt}
+use Prim.Native.Nat.{ℕ, _+_, _-_, _*_, _/_, _%_, _^_, _≤_, _<_}
+use native.Mathlib.Nat.{mod-lt}
 use native.Mathlib.Omega.{arith}
 use denote.Enum.Declared.{tagOf}
 use lib.Dec.{eqb, ltb}
-use lib.ListN.{length, take, drop, getD, set}
-use lib.Seq.{take-all}
-use borrow.Author.Tests.{eq-eqb, ne-eqb, lt-ltb, le-ltb}
-use Rattle.words.specs.Bytes.{part, over, zeros}
+use lib.ListN.{length, take, drop, set}
+use borrow.Author.Tests.{eq-eqb, ne-eqb, lt-ltb, le-ltb, not-true, not-false}
+use Rattle.words.specs.Bytes.{over, zeros}
 use Rattle.words.specs.Rule.{both}
-use Rattle.words.specs.Table.{lead, leadOf, Asc}
-use Rattle.words.proofs.Parts.{length-zeros, zeros-add, over-mid, over-nil}
+use Rattle.words.specs.Table.{lead, Asc}
+use Rattle.words.proofs.Parts.{length-zeros, over-nil}
 use Rattle.words.proofs.Multiples.{parts}
 use Rattle.words.proofs.Rules.{stop, go-on, pick-true, pick-false}
+use Rattle.words.proofs.FoundRows.{found-each}
+use Rattle.words.proofs.Written.{over-within, part-all, zeros-within}
+use Rattle.words.proofs.Search.{from-some}
 use Rattle.types.specs.Nodes.{kindByte, fileLimit}
 use Rattle.types.specs.declared.Answer.the-variants.{Done, Refused}
 use Rattle.types.specs.declared.Error.the-variants.{NoSuchEntry, IsDirectory, FileTooLarge, NoChunkRoom}
 use Rattle.types.specs.declared.NodeRecord.{NodeRecord}
+use Rattle.types.proofs.Bytes.{limit-most}
 use Rattle.allocator.specs.Allocator.{allocate}
 use Rattle.volume.specs.declared.Layout.{Layout}
 use Rattle.volume.specs.declared.ChunkRow.{ChunkRow}
@@ -38,16 +41,13 @@ use Rattle.tables.proofs.Found.{the-type}
 use Rattle.tables.proofs.Finds.{node-found, node-absent}
 use Rattle.tables.proofs.Rooms.{ready-laid}
 use Rattle.chunks.specs.Content.{chunk}
-use Rattle.chunks.specs.Store.{room, hole, taken, ensured, ensuredFor, put, lowOf, highOf, pieceOf, writeChunk, only, goes, cutFrom}
+use Rattle.chunks.specs.Store.{room, taken, ensured, ensuredFor, put, lowOf, highOf, pieceOf, writeChunk, only, goes, cutFrom}
 use Rattle.chunks.specs.Resize.{cramped, tailZeroed, shrunk, resizeFor, resize}
 use Rattle.chunks.specs.Stored.{Stored}
 use Rattle.chunks.proofs.Stored.{good-stored}
 use Rattle.chunks.proofs.Changed.{node-is, changed-set}
-use Rattle.chunks.proofs.Changing.{limit-most}
-use Rattle.chunks.proofs.FoundRows.{found-each}
 use Rattle.chunks.proofs.Limited.{Meets, meets}
 use Rattle.chunks.proofs.Cursor.{row-yes, row-no}
-use Rattle.chunks.proofs.Fills.{over-within}
 use Rattle.chunks.proofs.Puts.{piece-put}
 use Rattle.chunks.proofs.RowPlaces.{row-inside-found}
 use Rattle.chunks.proofs.TakenChunk.{newRow, given-inside, taken-here, taken-stored}
@@ -69,16 +69,6 @@ module _ (l : List ℕ) (y : Layout) (r : Ready l y) (p : ℕ) {s : ℕ} (size :
 
 -- ---- whether a file has a chunk from an index on
 
-lead-drop : {R : Type 0} (f : R → Bool) (d : R) (rs : List R) (p : ℕ) → p < length rs → f (getD rs p d) ≡ not (eqb (lead f (drop p rs)) 0)
-unfolding lead leadOf
-lead-drop f d [] p h = absurd (not-suc-le-zero h)
-lead-drop f d (r ∷ rs) zero h = go (f r)
-  where
-    go : (b : Bool) → b ≡ not (eqb (leadOf b (lead f rs)) 0)
-    go true = rw (ne-eqb (suc (lead f rs)) 0 (λ q. omega arith))
-    go false = refl
-lead-drop f d (r ∷ rs) (suc p) h = lead-drop f d rs p (le-of-suc-le-suc h)
-
 module _ (n c : ℕ) (cs : List ChunkRow) (sorted : Asc chunkBefore cs) {p used : ℕ} (place : p ≡ lead (chunkUnder n c) cs) (u : used ≡ length cs) where
   pub none-from : used ≤ p → false ≡ not (eqb (length (only (goes n c) cs)) 0)
   none-from h =
@@ -86,17 +76,9 @@ module _ (n c : ℕ) (cs : List ChunkRow) (sorted : Asc chunkBefore cs) {p used 
       rw (run-length n c cs sorted place refl, k)
 
   pub some-from : p < used → {d : ChunkRow} → d ≡ chunkAt cs p → eqb (d .node) n ≡ not (eqb (length (only (goes n c) cs)) 0)
-  some-from h e = rw (run-length n c cs sorted place refl, e) (lead-drop (ofNode n) _ cs p (omega arith))
+  some-from h e = rw (run-length n c cs sorted place refl, e) (from-some (ofNode n) _ cs p (omega arith))
 
 -- ---- whether the last chunk is a hole, and whether there is no room for it
-
-not-true : {a : Bool} (b : Bool) → a ≡ not b → a ≡ true → b ≡ false
-not-true true e h = absurd (true≢false (sym h ∙ e))
-not-true false e h = refl
-
-not-false : {a : Bool} (b : Bool) → a ≡ not b → a ≡ false → b ≡ true
-not-false true e h = refl
-not-false false e h = sym h ∙ e
 
 module _ (n z : ℕ) (v : Volume) {s : ℕ} (size : s ≡ v .allocator .chunkSize) where
   pub tail-even : z % s ≡ 0 → 0 ≡ tailNeeds n z v
@@ -116,23 +98,13 @@ module _ (n z : ℕ) (v : Volume) {s : ℕ} (size : s ≡ v .allocator .chunkSiz
 
     pub cramped-frees : b ≡ true → false ≡ cramped n z v
     unfolding cramped
-    cramped-frees e = stop _ _ (not-true _ from-up e)
+    cramped-frees e = stop _ _ (not-true _ (sym from-up ∙ e))
 
     pub cramped-is : b ≡ false → {q t : ℕ} → q ≡ room v → t ≡ tailNeeds n z v → ltb q t ≡ cramped n z v
     unfolding cramped
-    cramped-is e q t = go-on _ _ (not-false _ from-up e) (rw (q, t))
+    cramped-is e q t = go-on _ _ (not-false _ (sym from-up ∙ e)) (rw (q, t))
 
 -- ---- the last chunk zeroed
-
-zeros-within : (s i : ℕ) → i ≤ s → over (zeros s) i (zeros (s - i)) ≡ zeros s
-zeros-within s i h =
-    let m : s ≡ i + (s - i) = omega arith in
-    let e : zeros s ≡ zeros i ++ (zeros (s - i) ++ []) = ap zeros m ∙ sym (zeros-add i (s - i)) ∙ ap (λ (t : List ℕ). zeros i ++ t) (sym (append-nil (zeros (s - i)))) in
-    ap (λ (t : List ℕ). over t i (zeros (s - i))) e ∙ over-mid (zeros i) (zeros (s - i)) [] (zeros (s - i)) i (length-zeros i) refl ∙ sym e
-
-part-all : (l : List ℕ) (at n : ℕ) → at ≡ 0 → n ≡ length l → part l at n ≡ l
-unfolding part
-part-all l at n a e = rw (a, e) (take-all (length l) l (omega arith))
 
 -- where its row is: zeros from byte z on
 put-zeros : (n z : ℕ) (v : Volume) (st : Stored v) (d : ChunkRow) → chunk n (z / v .allocator .chunkSize) (v .chunks) ≡ some d

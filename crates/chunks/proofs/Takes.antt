@@ -7,12 +7,14 @@ use Prim.Native.Nat.{ℕ, _+_, _-_, _^_, _≤_, _<_}
 use native.Mathlib.Nat.{mul-le-mul}
 use native.Mathlib.Omega.{arith}
 use lib.ListN.{length, take, drop}
-use Rattle.words.specs.Bytes.{part, over, zeros}
+use Rattle.words.specs.Bytes.{over, zeros}
 use Rattle.words.specs.Table.{lead, insertAt}
 use Rattle.words.proofs.Parts.{length-zeros, length-over}
 use Rattle.words.proofs.Search.{lead-le}
+use Rattle.words.proofs.Written.{over-within, length-lent}
 use Rattle.allocator.specs.Allocator.{allocate}
 use Rattle.allocator.proofs.Sized.{accepted-bounds}
+use Rattle.allocator.proofs.Allocated.{allocate-rest}
 use Rattle.volume.specs.declared.Layout.{Layout}
 use Rattle.volume.specs.Search.{chunkUnder}
 use Rattle.volume.specs.Volume.{Volume, shown, laid, withAllocator, withChunks, withBytes}
@@ -24,10 +26,7 @@ use Rattle.tables.proofs.Rooms.{ready-laid}
 use Rattle.chunks.specs.Content.{chunk}
 use Rattle.chunks.specs.Store.{room, taken}
 use Rattle.chunks.specs.Stored.{Stored}
-use Rattle.chunks.proofs.Allocated.{allocate-rest}
-use Rattle.chunks.proofs.Fills.{over-within}
 use Rattle.chunks.proofs.KeptFields.{fits-taken}
-use Rattle.chunks.proofs.Pieces.{length-lent}
 use Rattle.chunks.proofs.Puts.{chunk-ends, chunk-put}
 use Rattle.chunks.proofs.TakenChunk.{given-inside}
 

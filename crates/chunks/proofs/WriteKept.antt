@@ -11,13 +11,15 @@ use lib.Dec.{eqb, ltb}
 use lib.ListN.{length, getD}
 use Rattle.words.specs.Rule.{pick}
 use Rattle.words.proofs.Rules.{Says, holds, fails, says-eqb, says-ltb}
+use Rattle.words.proofs.FoundRows.{found-each}
 use Rattle.types.specs.Nodes.{kindByte, fileLimit}
-use Rattle.types.specs.Answers.{number, value}
+use Rattle.types.specs.Answers.{value}
 use Rattle.types.specs.declared.Answer.the-variants.{Done, Refused}
 use Rattle.types.specs.declared.Error.{Error}
 use Rattle.types.specs.declared.Error.the-variants.{NoSuchEntry, IsDirectory, FileTooLarge, NoChunkRoom}
 use Rattle.types.specs.declared.FileType.the-variants.{Directory}
 use Rattle.types.specs.declared.NodeRecord.{NodeRecord}
+use Rattle.types.proofs.Bytes.{limit-most}
 use Rattle.volume.specs.declared.ChunkRow.{ChunkRow}
 use Rattle.volume.specs.Volume.{Volume}
 use Rattle.volume.specs.Framed.{NodeFits, Fits}
@@ -30,9 +32,7 @@ use Rattle.chunks.specs.Store.{room}
 use Rattle.chunks.specs.Write.{holes, written, writeFor, write}
 use Rattle.chunks.specs.Stored.{Stored}
 use Rattle.chunks.proofs.Stored.{good-stored}
-use Rattle.chunks.proofs.FoundRows.{found-each}
 use Rattle.chunks.proofs.Changed.{node-is}
-use Rattle.chunks.proofs.Changing.{limit-most}
 use Rattle.chunks.proofs.KeptFields.{Kept, kept-written}
 use Rattle.chunks.proofs.WrittenBytes.{written-stored, fits-written, written-in, written-away, written-beside, written-new}
 use Rattle.chunks.proofs.OwnedContent.{Reached, zero-above, owned-reached}

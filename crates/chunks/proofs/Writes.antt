@@ -11,10 +11,12 @@ use lib.Dec.{eqb, ltb}
 use lib.ListN.{length, set}
 use borrow.Author.Tests.{eq-eqb, ne-eqb, ltb-false}
 use Rattle.words.proofs.Rules.{pick-true, pick-false}
+use Rattle.words.proofs.FoundRows.{found-each}
 use Rattle.types.specs.Nodes.{kindByte, fileLimit}
 use Rattle.types.specs.declared.Answer.the-variants.{Done, Refused}
 use Rattle.types.specs.declared.Error.the-variants.{NoSuchEntry, IsDirectory, FileTooLarge, NoChunkRoom}
 use Rattle.types.specs.declared.NodeRecord.{NodeRecord}
+use Rattle.types.proofs.Bytes.{limit-most}
 use Rattle.volume.specs.declared.Layout.{Layout}
 use Rattle.volume.specs.Framed.{NodeFits, Fits}
 use Rattle.volume.specs.Volume.{Volume, shown, laid, withNodes}
@@ -30,8 +32,6 @@ use Rattle.chunks.specs.Stored.{Stored}
 use Rattle.chunks.specs.Write.{holes, written, writeFor, write}
 use Rattle.chunks.proofs.Stored.{good-stored}
 use Rattle.chunks.proofs.Changed.{node-is, changed-set}
-use Rattle.chunks.proofs.Changing.{limit-most}
-use Rattle.chunks.proofs.FoundRows.{found-each}
 use Rattle.chunks.proofs.KeptFields.{kept-written}
 use Rattle.chunks.proofs.Limited.{Meets, meets}
 use Rattle.chunks.proofs.Takes.{ready-as, shown-as}

@@ -1,6 +1,6 @@
 -- What the whole check means: it accepts exactly what is sound.
 -- Assumes nothing.
-use mathlib.Core.Path.{_≡_, refl, ap, _∙_}
+use mathlib.Core.Path.{_≡_, refl, _∙_}
 use mathlib.Core.Bool.{Bool, true, false}
 use mathlib.Core.List.{List, [], _∷_, map}
 use Prim.Native.Nat.{ℕ, _+_, _*_, _%_, _≤_, _<_}
@@ -12,9 +12,7 @@ use Rattle.words.specs.Table.{Each, Asc}
 use Rattle.words.proofs.Numbers.{num-part}
 use Rattle.words.proofs.Rules.{Says, says-map, says-both, says-and, says-true, true-says}
 use Rattle.types.specs.Sizes.{mostSize}
-use Rattle.types.specs.Nodes.{limitWord, fileLimit}
-use Rattle.types.specs.declared.Limit.{Limit}
-use Rattle.types.specs.declared.Limit.the-variants.{Unlimited, AtMost}
+use Rattle.types.proofs.Bytes.{limit-most}
 use Rattle.types.specs.declared.NodeRecord.{NodeRecord}
 use Rattle.paths.specs.Path.{nameAllowed}
 use Rattle.allocator.specs.Allocator.{free, readAllocator}
@@ -22,7 +20,7 @@ use Rattle.allocator.specs.Pointers.{due}
 use Rattle.allocator.proofs.Sized.{accepted-bounds}
 use Rattle.volume.specs.declared.Layout.{Layout}
 use Rattle.volume.specs.Rows.{Entry}
-use Rattle.volume.specs.Volume.{Volume, shown, laid}
+use Rattle.volume.specs.Volume.{Volume, shown}
 use Rattle.volume.specs.Geometry.{layoutOf}
 use Rattle.volume.specs.Framed.{Framed, NodeFits, Fits}
 use Rattle.volume.specs.Sound.{node, isDirectory, isThere, naming, nodeBefore, entryBefore, chunkBefore, Owned, NodeGood, Good, Sound}
@@ -154,10 +152,6 @@ pub framed-ready : (l : List ℕ) → Bytes l → Framed l → {y : Layout} → 
 framed-ready l b f e = record { formed = framed-formed l b f; layout = unfold shown in e }
 
 -- a size within its limit is at most 2^40
-limit-most : (m : Limit) → limitWord m ≤ mostSize → fileLimit m ≤ mostSize
-limit-most Unlimited h = omega arith
-limit-most (AtMost n) h = h
-
 sizes-of : (es : List Entry) (rs : List NodeRecord) → Each NodeFits rs → Each (NodeGood es) rs → Each (λ r. r .size ≤ mostSize) rs
 unfolding Each
 sizes-of es [] f g = tt

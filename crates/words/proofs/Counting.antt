@@ -10,6 +10,7 @@ use lib.Dec.{eqb}
 use lib.ListN.{length}
 use borrow.Author.Tests.{eq-eqb, ne-eqb}
 use Rattle.words.specs.Rule.{bit, times, count}
+use Rattle.words.specs.Table.{Each}
 
 pub bit-same : (p : ℕ) → bit (eqb p p) ≡ 1
 unfolding bit
@@ -34,6 +35,21 @@ module _ {R : Type 0} (f : R → Bool) where
   unfolding times
   times-most [] = omega arith
   times-most (r ∷ l) = omega (arith, times-most l, bit-most (f r))
+
+  -- nothing is counted where nothing passes, and the other way round
+  pub none-pass : (l : List R) → Each (λ r. f r ≡ false) l → times f l ≡ 0
+  unfolding Each times bit
+  none-pass [] h = refl
+  none-pass (r ∷ l) h = rw (h .0, none-pass l (h .1))
+
+  pub pass-none : (l : List R) → times f l ≡ 0 → Each (λ r. f r ≡ false) l
+  unfolding Each times bit
+  pass-none [] h = tt
+  pass-none (r ∷ l) h = go (f r) refl h (pass-none l)
+    where
+      go : (b : Bool) → f r ≡ b → bit b + times f l ≡ 0 → (times f l ≡ 0 → Each (λ s. f s ≡ false) l) → (f r ≡ false) × Each (λ s. f s ≡ false) l
+      go true e z k = absurd (omega arith)
+      go false e z k = (e, k (omega arith))
 
 pub count-cons : (p q : ℕ) (l : List ℕ) → count p (q ∷ l) ≡ bit (eqb q p) + count p l
 unfolding count times
