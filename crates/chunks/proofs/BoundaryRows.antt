@@ -28,7 +28,7 @@ use Rattle.volume.specs.Sound.{node, roundUp, Good}
 use Rattle.volume.specs.Steps.{Step, becomes, withNode}
 use Rattle.allocator.specs.Allocator.{free, allocate, release}
 use Rattle.allocator.proofs.Accounts.{due-none}
-use Rattle.chunks.proofs.Changed.{node-is}
+use Rattle.chunks.proofs.NodeRows.{node-is}
 use Rattle.tables.specs.Tables.{sized}
 use Rattle.chunks.specs.Content.{chunk, byteAt, bytesFrom}
 use Rattle.chunks.specs.Store.{only, goes, released, cutFrom, room, missing, writeChunks, writeChunk, put, putFor, ensured, ensuredFor, taken}

@@ -17,9 +17,8 @@ use Rattle.volume.specs.Volume.{Volume, shown, laid, withAllocator, withChunks}
 use Rattle.volume.specs.Framed.{ChunkFits, Fits}
 use Rattle.volume.specs.Search.{chunkUnder}
 use Rattle.volume.specs.Sound.{Good}
-use Rattle.volume.proofs.Laid.{shown-laid}
-use Rattle.tables.specs.Tables.{Ready, layoutAt, chunkAt}
-use Rattle.tables.proofs.Rooms.{ready-laid}
+use Rattle.tables.specs.Tables.{Ready, chunkAt}
+use Rattle.tables.proofs.Rooms.{shown-as, ready-as}
 use Rattle.chunks.specs.Store.{released, cutFrom}
 use Rattle.chunks.proofs.Stored.{good-stored}
 use Rattle.chunks.proofs.Released.{freed-all, release-last, pointers-small, released-fits}
@@ -50,10 +49,10 @@ module _ (l : List ℕ) (y : Layout) (r : Ready l y) (first n : ℕ) (inside : f
 
   module _ (i : ℕ) {m : List ℕ} (e : m ≡ laid (freedTo l first i)) (h : i ≤ n) where
     pub freed-shown : shown m ≡ freedTo l first i
-    freed-shown = ap shown e ∙ shown-laid (freedTo l first i) (freed-fits i h)
+    freed-shown = shown-as (freedTo l first i) (freed-fits i h) e
 
     pub freed-ready : Ready m y
-    freed-ready = rw (e, r .layout) (ready-laid (freedTo l first i) (freed-fits i h))
+    freed-ready = ready-as (freedTo l first i) (freed-fits i h) e (r .layout)
 
     pub still-rows : length (shown m .chunks) ≡ length (shown l .chunks)
     still-rows = ap (λ v. length (v .chunks)) freed-shown
@@ -112,10 +111,7 @@ module _ (l : List ℕ) (y : Layout) (r : Ready l y) (g : Good (shown l)) (n c :
   fits = cut-fits n c (shown l) (good-stored (shown l) (r .formed .fits) g) (r .formed .fits)
 
   pub cut-shown : shown m ≡ cutFrom n c (shown l)
-  cut-shown = ap shown e ∙ shown-laid (cutFrom n c (shown l)) fits
+  cut-shown = shown-as (cutFrom n c (shown l)) fits e
 
   pub cut-ready : Ready m y
-  cut-ready = rw (e, r .layout) (rw same at (ready-laid (cutFrom n c (shown l)) fits))
-    where
-      same : layoutAt (cutFrom n c (shown l)) ≡ layoutAt (shown l)
-      same = unfold cutFrom in refl
+  cut-ready = ready-as (cutFrom n c (shown l)) fits e (r .layout ∙ (unfold cutFrom in refl))

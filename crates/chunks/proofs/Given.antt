@@ -35,7 +35,7 @@ use Rattle.tables.proofs.Finds.{node-found, node-absent}
 use Rattle.chunks.specs.Content.{byteAt, bytesFrom}
 use Rattle.chunks.specs.Read.{readCount, read, readFrom}
 use Rattle.chunks.proofs.Content.{length-from, from-at}
-use Rattle.chunks.proofs.Changed.{node-is}
+use Rattle.chunks.proofs.NodeRows.{node-is, node-there}
 
 -- ---- sizes
 
@@ -70,7 +70,7 @@ module _ (n off : ℕ) (v : Volume) (buffer : List ℕ) where
 
     module _ {d : NodeRecord} (q : d ≡ nodeAt (v .nodes) i) {b : Bool} (t : b ≡ eqb (kindByte (d .kind)) 0) where
       its-node : node n v ≡ some d
-      its-node = row-found .1 ∙ ap some (sym q)
+      its-node = node-there n v k h q
 
       pub directory-read : b ≡ true → refused IsDirectory buffer ≡ read n off v buffer
       unfolding read readFrom

@@ -15,18 +15,18 @@ use Rattle.volume.specs.declared.Layout.{Layout}
 use Rattle.volume.specs.declared.ChunkRow.{ChunkRow}
 use Rattle.volume.specs.Search.{chunkUnder}
 use Rattle.volume.specs.Volume.{Volume, shown, laid}
-use Rattle.tables.specs.Tables.{Ready, layoutAt}
+use Rattle.tables.specs.Tables.{Ready}
 use Rattle.tables.proofs.Finds.{PairBefore}
+use Rattle.tables.proofs.Rooms.{shown-as, ready-as}
 use Rattle.chunks.specs.Content.{chunk}
 use Rattle.chunks.specs.Store.{room, hole, taken, ensured, ensuredFor, writeChunk, writeChunks}
 use Rattle.chunks.specs.Write.{numOf, holes, written}
 use Rattle.chunks.specs.Stored.{Stored}
 use Rattle.chunks.proofs.Cursor.{says-under}
 use Rattle.chunks.proofs.HoleCount.{hole-lead}
-use Rattle.chunks.proofs.KeptFields.{kept-writeChunk}
+use Rattle.chunks.proofs.KeptFields.{kept-layout, kept-writeChunk}
 use Rattle.chunks.proofs.PutPiece.{Touched, put-rows}
 use Rattle.chunks.proofs.TakenChunk.{newRow}
-use Rattle.chunks.proofs.Takes.{ready-as, shown-as}
 use Rattle.chunks.proofs.WrittenBytes.{written-writable}
 use Rattle.chunks.proofs.WrittenChunks.{Writable, first-touched, first-enough, next-writable, writeChunk-stored, writeChunk-found, fits-writeChunk}
 
@@ -110,9 +110,8 @@ module _ (l₀ : List ℕ) (y : Layout) (r : Ready l₀ y) (n offset : ℕ) (bs 
           let w = writeChunk n offset bs k (shown l) in
           let f = fits-writeChunk (shown l) (inv .rest .stored) n offset bs k touched fits-hole (inv .ready .formed .fits) node index in
           let s = shown-as w f e in
-          let p = kept-writeChunk n offset bs k (shown l) in
           let b : first + (i + 1) ≡ suc k = omega arith in
-          let g : layoutAt w ≡ layoutAt (shown l) = rw (p .nodeRoom, p .entryRoom, p .chunkRoom) in
+          let g = kept-layout (kept-writeChunk n offset bs k (shown l)) in
           let q : lead (chunkUnder n (k + 1)) (w .chunks) ≡ lead (chunkUnder n k) (shown l .chunks) + 1 = next-lead (shown l) (inv .rest .stored) n offset bs k touched fits-hole in
           let d : k + 1 ≡ first + (i + 1) = omega arith in
           let c : count - i ≡ suc (count - (i + 1)) = omega arith in

@@ -2,6 +2,7 @@ pub mod Content
 pub mod Cursor
 pub mod Inside
 pub mod Pieces
+pub mod NodeRows
 pub mod Changed
 pub mod GoodParts
 pub mod Changing
@@ -29,9 +30,10 @@ pub mod Cut
 pub mod Runs
 pub mod Freeing
 pub mod ShrunkBytes
-pub mod Resizes
 pub mod ResizeKept
 pub mod Takes
 pub mod OneChunk
+pub mod Tails
+pub mod Resizes
 pub mod Laps
 pub mod Writes

@@ -1,7 +1,7 @@
 -- What set limit does: its refusals, which leave the volume as it was, and the row that it changes.
 -- Assumes nothing.
 use mathlib.Core.Path.{_≡_, refl, sym, ap, _∙_}
-use mathlib.Core.Bool.{Bool, true, false, false≢true}
+use mathlib.Core.Bool.{Bool, true, false}
 use mathlib.Core.List.{List}
 use mathlib.Core.Option.{Option, none, some}
 use Prim.Native.Nat.{ℕ, _≤_, _<_}
@@ -34,7 +34,8 @@ use Rattle.tables.proofs.Found.{the-type}
 use Rattle.tables.proofs.Finds.{node-found, node-absent}
 use Rattle.chunks.specs.Content.{byteAt}
 use Rattle.chunks.specs.Limits.{limitSet, setLimit}
-use Rattle.chunks.proofs.Changed.{node-is, changed-set, find-other}
+use Rattle.chunks.proofs.NodeRows.{node-is, node-there, no-directory}
+use Rattle.chunks.proofs.Changed.{row-set, find-other}
 use Rattle.chunks.proofs.GoodParts.{ChunksOwned}
 use Rattle.chunks.proofs.Changing.{Stands, owned-changed, good-changed, fits-changed}
 
@@ -59,8 +60,7 @@ module _ (n : ℕ) (m : Limit) (l : List ℕ) (w : laid (shown l) ≡ l) (a : As
 
     module _ {d : NodeRecord} (q : d ≡ nodeAt (shown l .nodes) i) where
       its-node : node n (shown l) ≡ some d
-      unfolding node
-      its-node = node-found n (shown l .nodes) i (sym k ∙ h) .1 ∙ ap some (sym q)
+      its-node = node-there n (shown l) k h q
 
       module _ {b : Bool} (t : b ≡ eqb (kindByte (d .kind)) 0) where
         pub limit-directory : b ≡ true → Meets (Refused IsDirectory) l (setLimit n m (shown l))
@@ -83,7 +83,7 @@ module _ (n : ℕ) (m : Limit) (l : List ℕ) (w : laid (shown l) ≡ l) (a : As
             unfolding setLimit limitSet
             limit-done e {y} g =
                 let number : d .node ≡ n = node-is n (shown l) d its-node in
-                let same : y ≡ laid (withNode (d .node) (limited m) (shown l)) = rw (number, changed-set n (limited m) (shown l .nodes) i a (sym k ∙ h)) g in
+                let same : y ≡ laid (withNode (d .node) (limited m) (shown l)) = rw number (row-set n (limited m) (shown l .nodes) i a k h (shown l) refl l refl g) in
                 meets (becomes 0 (withNode (d .node) (limited m) (shown l))) _ same
                 (rw its-node (pick-false _ _ _ _ (sym t ∙ u) (pick-false _ _ _ _ (rw (← p) (le-ltb _ _ s)) (pick-false _ _ _ _ (rw (← o) (le-ltb _ _ e)) refl))))
 
@@ -101,8 +101,7 @@ limit-cases P n m v same other = from-row (node n v) refl
     from-file r e false k true p d q = same
     from-file r e false k false (fails p) true q = same
     from-file r e false k false (fails p) false (fails q) =
-        let file : r .kind ≡ Directory → ⊥ = λ z. false≢true (sym k ∙ ap (λ t. eqb (kindByte t) 0) z) in
-        rw (node-is n v r e) (other r e file (omega arith) (omega arith))
+        rw (node-is n v r e) (other r e (no-directory (r .kind) k) (omega arith) (omega arith))
 
     from-row : (o : Option NodeRecord) → node n v ≡ o → P (limitSet m v o .after)
     from-row none e = same

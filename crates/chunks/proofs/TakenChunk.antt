@@ -82,7 +82,7 @@ module _ (v : Volume) (st : Stored v) (some-room : 1 ≤ room v) where
   unfolding room
   some-left = omega (arith, some-room)
 
-  rows-fewer : length (v .chunks) < v .chunkRoom
+  pub rows-fewer : length (v .chunks) < v .chunkRoom
   unfolding room
   rows-fewer = omega (arith, some-room)
 

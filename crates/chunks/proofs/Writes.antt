@@ -1,6 +1,6 @@
 -- What a write does: its refusals, which leave the volume as it was, its chunks written, and the size that it sets.
 -- Assumes nothing.
-use mathlib.Core.Path.{_≡_, refl, sym, ap, _∙_}
+use mathlib.Core.Path.{_≡_, refl, sym, _∙_}
 use mathlib.Core.Bool.{Bool, true, false}
 use mathlib.Core.List.{List}
 use mathlib.Core.Option.{some}
@@ -11,7 +11,6 @@ use lib.Dec.{eqb, ltb}
 use lib.ListN.{length, set}
 use borrow.Author.Tests.{eq-eqb, ne-eqb, ltb-false}
 use Rattle.words.proofs.Rules.{pick-true, pick-false}
-use Rattle.words.proofs.FoundRows.{found-each}
 use Rattle.types.specs.Nodes.{kindByte, fileLimit}
 use Rattle.types.specs.declared.Answer.the-variants.{Done, Refused}
 use Rattle.types.specs.declared.Error.the-variants.{NoSuchEntry, IsDirectory, FileTooLarge, NoChunkRoom}
@@ -22,19 +21,20 @@ use Rattle.volume.specs.Framed.{NodeFits, Fits}
 use Rattle.volume.specs.Volume.{Volume, shown, laid, withNodes}
 use Rattle.volume.specs.Sound.{node, Good}
 use Rattle.volume.specs.Steps.{stays, becomes, withNode}
-use Rattle.tables.specs.Tables.{Ready, nodeAt, foundNode, layoutAt, sized}
+use Rattle.tables.specs.Tables.{Ready, nodeAt, foundNode, sized}
 use Rattle.tables.specs.declared.Found.{Found}
 use Rattle.tables.specs.declared.Found.the-variants.{At, Nothing}
 use Rattle.tables.proofs.Found.{the-type}
 use Rattle.tables.proofs.Finds.{node-found, node-absent}
+use Rattle.tables.proofs.Rooms.{shown-as, ready-as}
 use Rattle.chunks.specs.Store.{room}
 use Rattle.chunks.specs.Stored.{Stored}
 use Rattle.chunks.specs.Write.{holes, written, writeFor, write}
 use Rattle.chunks.proofs.Stored.{good-stored}
-use Rattle.chunks.proofs.Changed.{node-is, changed-set}
-use Rattle.chunks.proofs.KeptFields.{kept-written}
+use Rattle.chunks.proofs.NodeRows.{node-is, node-each, node-there}
+use Rattle.chunks.proofs.Changed.{row-set}
+use Rattle.chunks.proofs.KeptFields.{kept-layout, kept-written}
 use Rattle.chunks.proofs.Limited.{Meets, meets}
-use Rattle.chunks.proofs.Takes.{ready-as, shown-as}
 use Rattle.chunks.proofs.WrittenBytes.{fits-written}
 
 module _ (n offset : ℕ) (bs : List ℕ) (l : List ℕ) (y : Layout) (ready : Ready l y) (g : Good (shown l)) where
@@ -59,15 +59,13 @@ module _ (n offset : ℕ) (bs : List ℕ) (l : List ℕ) (y : Layout) (ready : R
 
     module _ {d : NodeRecord} (q : d ≡ nodeAt (v .nodes) i) {b : Bool} (t : b ≡ eqb (kindByte (d .kind)) 0) where
       its-node : node n v ≡ some d
-      unfolding node
-      its-node = node-found n (v .nodes) i (sym k ∙ h) .1 ∙ ap some (sym q)
+      its-node = node-there n v k h q
 
       number : d .node ≡ n
       number = node-is n v d its-node
 
       row-fits : NodeFits d
-      unfolding node
-      row-fits = found-each (λ s. eqb (s .node) n) NodeFits (v .nodes) d (ready .formed .fits .nodeRows) its-node
+      row-fits = node-each n v d its-node NodeFits (ready .formed .fits .nodeRows)
 
       -- 3
       pub write-directory : b ≡ true → Meets (Refused IsDirectory) l (write n offset bs v)
@@ -124,15 +122,12 @@ module _ (n offset : ℕ) (bs : List ℕ) (l : List ℕ) (y : Layout) (ready : R
                   -- what `set_size` asks
                   pub size-asked : Ready j y × (i < length (shown j .nodes))
                   size-asked =
-                      let p = kept-written n offset bs v in
-                      let f : layoutAt (written n offset bs v) ≡ layoutAt v = rw (p .nodeRoom, p .entryRoom, p .chunkRoom) in
-                      (ready-as (written n offset bs v) fits e (ready .layout ∙ sym f), rw (shown-written, nodes-stay) write-place)
+                      (ready-as (written n offset bs v) fits e (ready .layout ∙ sym (kept-layout (kept-written n offset bs v))), rw (shown-written, nodes-stay) write-place)
 
                   pub write-done : {size : ℕ} → size ≡ max (d .size) (offset + length bs) → {f : List ℕ} → f ≡ laid (withNodes (set (shown j .nodes) i (sized size (nodeAt (shown j .nodes) i))) (shown j)) → Meets (Done (length bs)) f (write n offset bs v)
                   unfolding write writeFor
                   write-done {size} es {f} ef =
                       let m₁ = max (d .size) (offset + length bs) in
-                      let c₁ = changed-set n (sized m₁) (v .nodes) i (g .nodeOrder) (sym k ∙ h) in
-                      let x : f ≡ laid (withNode n (sized m₁) (written n offset bs v)) = ef ∙ rw (shown-written, nodes-stay, es) (ap (λ ns. laid (withNodes ns (written n offset bs v))) (sym c₁)) in
+                      let x : f ≡ laid (withNode n (sized m₁) (written n offset bs v)) = row-set n (sized m₁) (v .nodes) i (g .nodeOrder) k h (written n offset bs v) nodes-stay j shown-written (rw es at ef) in
                       meets (becomes (length bs) (withNode n (sized m₁) (written n offset bs v))) _ x
                       (rw (its-node, number) (pick-false _ _ _ _ (sym t ∙ u) (pick-false _ _ _ _ (ne-eqb _ _ bytes) (pick-false _ _ _ _ (sym above ∙ s) (pick-false _ _ _ _ (sym m ∙ z) refl)))))
