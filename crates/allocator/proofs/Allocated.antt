@@ -1,34 +1,17 @@
--- An allocation, its two ways: what it leaves of the allocator, and how many chunks can be taken yet. Over any chunk size.
+-- What an allocation leaves of the allocator, and how many chunks can be taken yet. Over any chunk size.
 -- Assumes nothing.
 use mathlib.Core.Path.{_≡_, refl}
-use mathlib.Core.Bool.{Bool, true, false}
 use mathlib.Core.List.{List}
 use Prim.Native.Nat.{ℕ, suc, _+_, _-_, _*_, _/_, _%_, _≤_, _<_}
 use native.Mathlib.Nat.{le-div-iff-mul-le, div-eq-sub-div}
 use native.Mathlib.Omega.{arith}
-use lib.Dec.{eqb}
 use lib.ListN.{length}
 use lib.Seq.{length-take-le}
-use Rattle.words.specs.Rule.{pick}
-use Rattle.words.proofs.Rules.{Says, holds, fails, says-eqb}
 use Rattle.words.proofs.Multiples.{whole, step-apart}
-use Rattle.allocator.specs.Allocator.{Allocator, Taken, free, allocate, grown, popped}
+use Rattle.allocator.specs.Allocator.{Allocator, Taken, free, allocate}
 use Rattle.allocator.specs.Pointers.{Accounted}
+use Rattle.allocator.proofs.Ways.{Way, new, last, way}
 use Rattle.allocator.proofs.Counted.{all-pointers}
-
--- ---- the two ways of an allocation
-
-pub data Way (a : Allocator) : Taken → Type 0 where
-  new : a .freeCount ≡ 0 → Way a (grown a)
-  last : (a .freeCount ≡ 0 → ⊥) → Way a (popped a)
-
-pub way : (a : Allocator) → Way a (allocate a)
-unfolding allocate pick
-way a = go (eqb (a .freeCount) 0) (says-eqb (a .freeCount) 0)
-  where
-    go : (b : Bool) → Says (a .freeCount ≡ 0) b → Way a (pick b (grown a) (popped a))
-    go true (holds e) = new e
-    go false (fails e) = last e
 
 -- how many chunks an area of so many bytes has yet
 abbrev pub left : ℕ → Allocator → ℕ

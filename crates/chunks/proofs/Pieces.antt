@@ -4,9 +4,8 @@ use mathlib.Core.Path.{_≡_, refl, sym, ap, _∙_}
 use mathlib.Core.Bool.{Bool, true, false, not}
 use mathlib.Core.List.{List, _++_}
 use mathlib.Core.Option.{some}
-use Prim.Native.Nat.{ℕ, _+_, _-_, _*_, _/_, _%_, min, _≤_, _<_}
-use native.Mathlib.Nat.{mod-lt, suc-mul, add-zero}
-use native.Mathlib.Numerals.{add-one}
+use Prim.Native.Nat.{ℕ, _+_, _-_, _/_, _%_, min, _≤_, _<_}
+use native.Mathlib.Nat.{mod-lt, add-zero}
 use native.Mathlib.Omega.{arith}
 use lib.Dec.{ltb}
 use lib.ListN.{length, take, drop}
@@ -15,7 +14,7 @@ use Rattle.words.specs.Bytes.{part, over, zeros, word}
 use Rattle.words.specs.Rule.{both}
 use Rattle.words.specs.Table.{Asc, lead}
 use Rattle.words.proofs.Parts.{length-part, length-zeros, length-over, over-nil, two, lent-at}
-use Rattle.words.proofs.Multiples.{parts, chunk-of}
+use Rattle.words.proofs.Multiples.{next-chunk}
 use Rattle.words.proofs.Rules.{call-no, call-yes}
 use Rattle.words.proofs.Written.{over-all, length-lent}
 use Rattle.volume.specs.declared.Layout.{Layout}
@@ -89,12 +88,6 @@ module _ (l : List ℕ) (y : Layout) (r : Ready l y) (asc : Asc chunkBefore (sho
 -- ---- piece after piece
 
 -- a piece ends where its chunk does, unless nothing is left
-next-chunk : (S j k left : ℕ) → 0 < S → k ≡ min left (S - j % S) → k < left → (j + k) / S ≡ j / S + 1
-next-chunk S j k left pos e h =
-    let f : k ≡ S - j % S = omega arith in
-    let m : (j / S + 1) * S ≡ j / S * S + S = rw add-one (suc-mul (j / S) S) in
-    chunk-of S (j / S + 1) (j + k) (omega (arith, parts pos j)) (omega (arith, parts pos j))
-
 -- what stands in the buffer, and which row comes next, when so many bytes are done
 abbrev pub ReadTo : Volume → ℕ → ℕ → List ℕ → List ℕ → ℕ → ℕ → Type 0
 ReadTo v n off b₀ b row done =

@@ -2,7 +2,7 @@
 -- Assumes nothing.
 use mathlib.Core.Path.{_≡_, refl, sym, ap, _∙_}
 use mathlib.Core.Bool.{Bool, true, false, not, false≢true}
-use mathlib.Core.Logic.{_⊎_, inl, inr, ⊎-elim}
+use mathlib.Core.Logic.{_⊎_, ⊎-elim}
 use mathlib.Core.List.{List, [], _∷_}
 use Prim.Native.Nat.{ℕ, zero, suc, _≤_, _<_}
 use native.Mathlib.Nat.{not-suc-le-zero, le-of-suc-le-suc}
@@ -12,8 +12,9 @@ use borrow.Author.Tests.{eq-eqb}
 use lib.ListN.{length, getD}
 use lib.Seq.{take-length}
 use Rattle.words.specs.Bytes.{part}
-use Rattle.words.specs.Rule.{both, either, same}
-use Rattle.words.proofs.Rules.{Says, holds, fails, both-false, says-true, true-says, false-says, says-map, says-both, says-leb, says-not}
+use Rattle.words.specs.Rule.{both, same}
+use Rattle.words.proofs.Joined.{both-false, either-false, either-true}
+use Rattle.words.proofs.Rules.{Says, holds, fails, says-true, true-says, false-says, says-map, says-both, says-leb, says-not}
 use Rattle.words.proofs.Blocks.{says-same}
 use Rattle.types.specs.Sizes.{mostName}
 use Rattle.paths.specs.declared.Sort.{Sort}
@@ -45,16 +46,6 @@ says-name p = says-map
     (says-both (says-leb 1 (length p)) (says-both (says-leb (length p) mostName) (says-both (says-whole p) (says-both (says-not (says-same p (dot ∷ []))) (says-not (says-same p (dot ∷ dot ∷ [])))))))
 
 -- ---- pieces that are no names, and those that are
-
-either-false : (a b : Bool) → either a b ≡ false → (a ≡ false) × (b ≡ false)
-unfolding either
-either-false true b h = absurd (false≢true (sym h))
-either-false false b h = (refl, h)
-
-either-true : (a b : Bool) → either a b ≡ true → (a ≡ true) ⊎ (b ≡ true)
-unfolding either
-either-true true b h = inl refl
-either-true false b h = inr h
 
 some-bytes : (p : List ℕ) → same p [] ≡ false → 0 < length p
 unfolding same

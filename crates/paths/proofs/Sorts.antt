@@ -9,21 +9,12 @@ use lib.Dec.{eqb}
 use borrow.Author.Tests.{eq-eqb, ne-eqb, le-leb, lt-leb, eqb-true, eqb-false}
 use lib.ListN.{length}
 use Rattle.words.specs.Rule.{pick, both, either, bit, times, count, same}
-use Rattle.words.proofs.Rules.{pick-true, pick-false, both-false}
+use Rattle.words.proofs.Joined.{both-false}
+use Rattle.words.proofs.Rules.{pick-true, pick-false}
 use Rattle.paths.specs.declared.Sort.{Sort}
 use Rattle.paths.specs.declared.Sort.the-variants.{Dropped, Upward, Name}
 use Rattle.paths.specs.Path.{dot, dropped, upward}
 use Rattle.paths.specs.Pieces.{sortOf}
-
--- ---- a byte
-
-pub bit-yes : {b n : ℕ} → b ≡ n → 1 ≡ bit (eqb b n)
-unfolding bit
-bit-yes {b} {n} e = rw (eq-eqb b n e)
-
-pub bit-no : {b n : ℕ} → (b ≡ n → ⊥) → 0 ≡ bit (eqb b n)
-unfolding bit
-bit-no {b} {n} h = rw (ne-eqb b n h)
 
 -- ---- the sort that a length and dots mean
 

@@ -1,15 +1,16 @@
 -- What the whole check means: it accepts exactly what is sound.
 -- Assumes nothing.
-use mathlib.Core.Path.{_≡_, refl, _∙_}
-use mathlib.Core.Bool.{Bool, true, false}
+use mathlib.Core.Path.{_≡_, _∙_}
+use mathlib.Core.Bool.{Bool, true}
 use mathlib.Core.List.{List, [], _∷_, map}
 use Prim.Native.Nat.{ℕ, _+_, _*_, _%_, _≤_, _<_}
 use native.Mathlib.Omega.{arith}
 use lib.ListN.{length}
 use Rattle.words.specs.Bytes.{word, Bytes}
-use Rattle.words.specs.Rule.{both, count}
+use Rattle.words.specs.Rule.{count}
 use Rattle.words.specs.Table.{Each, Asc}
 use Rattle.words.proofs.Numbers.{num-part}
+use Rattle.words.proofs.Joined.{both-true}
 use Rattle.words.proofs.Rules.{Says, says-map, says-both, says-and, says-true, true-says}
 use Rattle.types.specs.Sizes.{mostSize}
 use Rattle.types.proofs.Bytes.{limit-most}
@@ -172,11 +173,6 @@ module _ (v : Volume) {s n : ℕ} (es : s ≡ v .allocator .chunkSize) (en : n �
 pub owned-as : (v : Volume) {s : ℕ} {r : Bool} → s ≡ v .allocator .chunkSize → r ≡ chunksOwned s (v .bytes) (v .nodes) (v .chunks) → r ≡ chunksOwned (v .allocator .chunkSize) (v .bytes) (v .nodes) (v .chunks)
 owned-as v es e = e ∙ rw es
 
-first-true : (a b : Bool) → both a b ≡ true → a ≡ true
-unfolding both
-first-true true b e = refl
-first-true false b e = e
-
 -- every chunk of a row lies in the area
 pub inside-as : (v : Volume) {s : ℕ} → s ≡ v .allocator .chunkSize → 0 < s → nextFits (v .allocator .chunkSize) (v .allocator .nextPtr) (length (v .bytes)) (v .chunkRoom) ≡ true
     → pointersGood (v .allocator .chunkSize) (v .allocator .nextPtr) (v .chunks) (free (v .allocator)) ≡ true
@@ -184,4 +180,4 @@ pub inside-as : (v : Volume) {s : ℕ} → s ≡ v .allocator .chunkSize → 0 <
 unfolding pointersGood
 inside-as v es pos f p i h =
     let k = says-true (says-next (v .allocator .chunkSize) (v .allocator .nextPtr) (length (v .bytes)) (v .chunkRoom)) f in
-    rw es (rows-inside (v .allocator .chunkSize) (v .allocator .nextPtr) (length (v .bytes)) (omega arith) (k .0) (k .1 .0) (v .chunks) (first-true _ _ p) i h)
+    rw es (rows-inside (v .allocator .chunkSize) (v .allocator .nextPtr) (length (v .bytes)) (omega arith) (k .0) (k .1 .0) (v .chunks) (both-true _ _ p .0) i h)

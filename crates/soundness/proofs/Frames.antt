@@ -1,15 +1,16 @@
 -- Laws of the frame: the test says whether bytes are framed, and what its code finds.
 -- Assumes nothing.
-use mathlib.Core.Path.{_≡_, refl, ap, _∙_}
+use mathlib.Core.Path.{_≡_, ap, _∙_}
 use mathlib.Core.Bool.{Bool, true, false}
 use mathlib.Core.List.{List}
-use Prim.Native.Nat.{ℕ, zero, suc, _+_, _-_, _*_, _/_, _≤_, _<_}
+use Prim.Native.Nat.{ℕ, _+_, _-_, _*_, _/_, _≤_, _<_}
 use native.Mathlib.Omega.{arith}
 use lib.ListN.{length, take, drop}
 use Rattle.words.specs.Bytes.{word, part}
-use Rattle.words.specs.Rule.{both, upto, allZero}
+use Rattle.words.specs.Rule.{allZero}
 use Rattle.words.proofs.Parts.{length-part}
 use Rattle.words.proofs.Numbers.{num-part}
+use Rattle.words.proofs.Joined.{upto-all}
 use Rattle.words.proofs.Rules.{Says, holds, says-map, says-both, says-and, says-upto, says-eqb, says-leb, says-itself, says-true, true-says, go-on}
 use Rattle.words.proofs.Blocks.{says-zeros}
 use Rattle.allocator.specs.Sizes.{acceptedSize}
@@ -83,14 +84,9 @@ module _ (l : List ℕ) {n e c : ℕ} (p : n ≡ word l 8) (q : e ≡ word l 16)
       go (At y) k h = is-placed n e c (length l) h .0
       go Nowhere k h = absurd (omega arith)
 
-all-rows : (n : ℕ) → upto n (λ _. true) ≡ true
-unfolding upto both
-all-rows zero = refl
-all-rows (suc n) = rw (all-rows n)
-
 pub any-rows : (s : ℕ) (l : List ℕ) (at used room : ℕ) {r : Bool} → r ≡ allZero (part l (at + s * used) (s * (room - used))) → r ≡ rowsFormed (λ _. true) s l at used room
 unfolding rowsFormed
-any-rows s l at used room e = go-on _ _ (all-rows used) e
+any-rows s l at used room e = go-on _ _ (upto-all used) e
 
 -- the tables of a header that was checked, with numbers that were read
 module _ (l : List ℕ) {y : Layout} (k : y ≡ layoutOf (word l 8) (word l 16) (word l 24)) {used room : ℕ} where

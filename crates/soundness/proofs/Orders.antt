@@ -1,6 +1,6 @@
 -- What the tests of rows mean.
 -- Assumes nothing.
-use mathlib.Core.Path.{_≡_, refl, ap}
+use mathlib.Core.Path.{_≡_, refl, ap, _∙_}
 use mathlib.Core.Bool.{Bool, true, false, not, false≢true}
 use mathlib.Core.List.{List, [], _∷_}
 use mathlib.Core.Option.{some}
@@ -9,7 +9,7 @@ use native.Mathlib.Omega.{arith}
 use lib.Dec.{eqb, ltb, leb}
 use lib.ListN.{length}
 use borrow.Author.Tests.{ne-eqb, le-leb}
-use Rattle.words.specs.Rule.{both, pick}
+use Rattle.words.specs.Rule.{both, pick, upto}
 use Rattle.words.specs.Table.{Each, Asc, find}
 use Rattle.words.proofs.Order.{each-map}
 use Rattle.words.proofs.Places.{each-places, asc-places}
@@ -26,6 +26,7 @@ use Rattle.volume.specs.Rows.{Entry, readNode, readEntry, readChunk}
 use Rattle.volume.specs.Volume.{Volume}
 use Rattle.volume.specs.Search.{pairBefore}
 use Rattle.volume.specs.Sound.{node, isDirectory, naming, nodeBefore, entryBefore, chunkBefore}
+use Rattle.tables.specs.Tables.{nodeAt}
 use Rattle.tables.proofs.Finds.{says-pair, pair-trans}
 use Rattle.soundness.specs.Order.{nodesAscend, entriesAscend, chunksAscend, indexed, nodesBelow, rooted, rootUnnamed, namesAllowed}
 
@@ -91,3 +92,12 @@ found-root (r ∷ rs) a = go (leb 1 (length (r ∷ rs))) (le-leb 1 (length (r �
 pub says-root : (v : Volume) → Asc nodeBefore (v .nodes) → Says (isDirectory (node 0 v)) (rooted (v .nodes))
 unfolding node
 says-root v a = found-root (v .nodes) a
+
+-- ---- for the code: the numbers that it read
+
+pub pair-as : {p q s t a b c d : ℕ} {r : Bool} → r ≡ pairBefore p q s t → p ≡ a → q ≡ b → s ≡ c → t ≡ d → r ≡ pairBefore a b c d
+pair-as e f g h k = e ∙ rw (f, g, h, k)
+
+pub below-as : (rs : List NodeRecord) {m n : ℕ} {b : Bool} → m ≡ n → b ≡ upto (length rs) (λ i. ltb (nodeAt rs i .node) m) → b ≡ nodesBelow n rs
+unfolding nodesBelow
+below-as rs {m} {n} e h = h ∙ ap (λ (k : ℕ). upto (length rs) (λ i. ltb (nodeAt rs i .node) k)) e

@@ -1,6 +1,7 @@
 pub mod Parts
 pub mod Written
 pub mod Numbers
+pub mod Joined
 pub mod Rules
 pub mod Blocks
 pub mod Order

@@ -13,6 +13,7 @@ use lib.Dec.{eqb, ltb, leb}
 use borrow.Author.Tests.{eqb-true, eqb-false, ltb-true, ltb-false, leb-true, leb-false, eq-eqb, ne-eqb, le-leb, lt-leb, not-true, not-false}
 use lib.ListN.{length, getD}
 use Rattle.words.specs.Rule.{pick, both, either, upto, apart, bit, tally, times}
+use Rattle.words.proofs.Joined.{both-false}
 use Rattle.words.proofs.Counting.{bit-most}
 
 -- b says whether P holds
@@ -57,11 +58,6 @@ upto-start f = refl
 pub upto-turn : (f : ℕ → Bool) (i : ℕ) → upto i f ≡ true → f i ≡ true → upto (i + 1) f ≡ true
 unfolding upto both
 upto-turn f i p e = rw (add-one, p, e)
-
-pub both-false : (t : Bool) → both t false ≡ false
-unfolding both
-both-false true = refl
-both-false false = refl
 
 pub upto-fail : (f : ℕ → Bool) (n i : ℕ) → i < n → f i ≡ false → false ≡ upto n f
 unfolding upto both
