@@ -1,6 +1,6 @@
 -- Every pointer ever given out is live once or free once, under allocate and free, for any list of live ones and over the chunk size.
 -- Assumes nothing.
-use mathlib.Core.Path.{_≡_, refl, sym, ap, _∙_}
+use mathlib.Core.Path.{_≡_, refl, ap, _∙_}
 use mathlib.Core.Bool.{Bool, true, false}
 use mathlib.Core.List.{List, [], _∷_, _++_}
 use Prim.Native.Nat.{ℕ, zero, suc, _+_, _-_, _*_, _%_, _≤_, _<_}
@@ -11,13 +11,13 @@ use native.Mathlib.Decide.{decLt}
 use lib.Dec.{eqb, ltb}
 use lib.ListN.{length, take, getD}
 use lib.Seq.{take-suc, take-suc-set, getD-set-same, take-set-le}
-use borrow.Author.Tests.{eq-eqb, ne-eqb}
 use Rattle.words.specs.Rule.{both, bit, count}
-use Rattle.words.proofs.Rules.{Says, holds, fails, says-eqb, says-ltb, pick-true, pick-false}
+use Rattle.words.proofs.Rules.{Says, holds, fails, says-eqb, says-ltb}
 use Rattle.words.proofs.Counting.{count-cons, count-snoc, bit-most}
 use Rattle.words.proofs.Multiples.{gap, lined-next}
-use Rattle.allocator.specs.Allocator.{Allocator, free, allocate, release, popped, grown}
+use Rattle.allocator.specs.Allocator.{Allocator, free, allocate, release, popped, grown, Taken}
 use Rattle.allocator.specs.Pointers.{due, Accounted, allocations}
+use Rattle.allocator.proofs.Ways.{Way, new, last, way, takes-new, takes-last}
 
 -- ---- the pointers due
 
@@ -77,16 +77,6 @@ due-next s next p pos h = go (ltb p next) (says-ltb p next) (ltb p (next + s)) (
     go false (fails x) false (fails y) c l true (holds e) = absurd (y (omega arith))
     go false (fails x) false (fails y) c l false (fails e) = refl
 
--- ---- the two ways of an allocation
-
-takes-new : (a : Allocator) → a .freeCount ≡ 0 → allocate a ≡ grown a
-unfolding allocate
-takes-new a e = sym (pick-true _ (grown a) (popped a) _ (eq-eqb _ _ e) refl)
-
-takes-last : (a : Allocator) → (a .freeCount ≡ 0 → ⊥) → allocate a ≡ popped a
-unfolding allocate
-takes-last a h = sym (pick-false _ (grown a) (popped a) _ (ne-eqb _ _ h) refl)
-
 -- ---- the account is kept
 
 -- the free pointers, the last of them apart
@@ -99,7 +89,7 @@ last-free a e h =
 pub allocate-accounts : (a : Allocator) (live : List ℕ) → 0 < a .chunkSize → a .nextPtr % a .chunkSize ≡ 0 → a .freeCount ≤ length (a .words) → Accounted a live
     → Accounted (allocate a .after) (allocate a .pointer ∷ live)
 unfolding Accounted free
-allocate-accounts a live pos l h acc = go (eqb (a .freeCount) 0) (says-eqb (a .freeCount) 0)
+allocate-accounts a live pos l h acc = go (allocate a) (way a)
   where
     grows : Accounted (grown a .after) (grown a .pointer ∷ live)
     grows p = omega (arith, acc p, count-cons p (a .nextPtr) live, due-next (a .chunkSize) (a .nextPtr) p pos l)
@@ -110,17 +100,17 @@ allocate-accounts a live pos l h acc = go (eqb (a .freeCount) 0) (says-eqb (a .f
         let c : count p (free a) ≡ bit (eqb q p) + count p (take (a .freeCount - 1) (a .words)) = ap (count p) (last-free a e h) ∙ count-snoc p q (take (a .freeCount - 1) (a .words)) in
         omega (arith, acc p, count-cons p q live)
 
-    go : (t : Bool) → Says (a .freeCount ≡ 0) t → Accounted (allocate a .after) (allocate a .pointer ∷ live)
-    go true (holds e) = rw (takes-new a e) grows
-    go false (fails e) = rw (takes-last a e) (pops e)
+    go : (t : Taken) → Way a t → Accounted (t .after) (t .pointer ∷ live)
+    go t (new e) = grows
+    go t (last e) = pops e
 
 -- word 3 stays a multiple of the chunk size
 pub allocate-lined : (a : Allocator) → a .nextPtr % a .chunkSize ≡ 0 → allocate a .after .nextPtr % allocate a .after .chunkSize ≡ 0
-allocate-lined a l = go (eqb (a .freeCount) 0) (says-eqb (a .freeCount) 0)
+allocate-lined a l = go (allocate a) (way a)
   where
-    go : (t : Bool) → Says (a .freeCount ≡ 0) t → allocate a .after .nextPtr % allocate a .after .chunkSize ≡ 0
-    go true (holds e) = rw (takes-new a e) (lined-next (a .chunkSize) (a .nextPtr) l)
-    go false (fails e) = rw (takes-last a e) l
+    go : (t : Taken) → Way a t → t .after .nextPtr % t .after .chunkSize ≡ 0
+    go t (new e) = lined-next (a .chunkSize) (a .nextPtr) l
+    go t (last e) = l
 
 -- a pointer freed comes behind the others
 pub freed-words : (a : Allocator) (p : ℕ) → a .freeCount < length (a .words) → free (release p a) ≡ free a ++ (p ∷ [])

@@ -11,7 +11,8 @@ use Rattle.words.specs.Bytes.{part, over, spell, num, word, Bytes}
 use Rattle.words.specs.Table.{table, layWords, Each}
 use Rattle.words.proofs.Numbers.{num-below, num-part, spell-num, length-spell, value-spell}
 use Rattle.words.proofs.Order.{each-map, each-left, each-right, set-append-add}
-use Rattle.words.proofs.Tables.{each-table, lay-table, table-lay, length-table, length-layAll, layAll-append, table-add, set-lay, num-words}
+use Rattle.words.proofs.Pieces.{rows-again, each-rows}
+use Rattle.words.proofs.Tables.{table-lay, length-table, length-layAll, layAll-append, table-add, set-lay, num-words}
 use Rattle.allocator.specs.Allocator.{Allocator, withSize, withCount, withNext, withWords, wordsOf, layAllocator, readAllocator, readWord}
 use Rattle.allocator.specs.Words.{Formed}
 
@@ -36,7 +37,7 @@ unfolding layAllocator
 laid-again l b f =
     let e : 8 * (length l / 8) ≡ length l = omega (arith, f .whole) in
     let w : part l 0 (length l) ≡ l = unfold part in take-length l in
-    ap layWords (words-of l f) ∙ lay-table readWord (spell 8) 8 l (word-again l b) 0 (length l / 8) (omega arith) ∙ ap (part l 0) e ∙ w
+    ap layWords (words-of l f) ∙ rows-again readWord (spell 8) 8 l 0 (length l / 8) (λ i h. word-again l b (0 + 8 * i) (omega arith)) ∙ ap (part l 0) e ∙ w
 
 -- ---- what is laid out is read back
 
@@ -156,7 +157,7 @@ module _ (a : Allocator) (f : Fits a) where
 -- ---- what is read fits
 
 pub read-fits : (l : List ℕ) → Bytes l → Formed l → Fits (readAllocator l)
-read-fits l b f = record { twelve = unfold readAllocator in length-table readWord 8 l 32 12; small = rw (words-of l f) (each-table (λ w. w < 2 ^ 64) readWord 8 l below 0 (length l / 8) (omega arith)) }
+read-fits l b f = record { twelve = unfold readAllocator in length-table readWord 8 l 32 12; small = rw (words-of l f) (each-rows (λ w. w < 2 ^ 64) readWord 8 l 0 (length l / 8) (λ i h. below (0 + 8 * i) (omega arith))) }
   where
     below : (at : ℕ) → at + 8 ≤ length l → readWord (part l at 8) < 2 ^ 64
     below at h = rw (first-word l at) (num-below 8 l at b h)

@@ -17,8 +17,9 @@ use Rattle.types.specs.declared.Error.the-variants.{InvalidArgument}
 use Rattle.allocator.specs.declared.Popped.{Popped}
 use Rattle.allocator.specs.declared.Popped.the-variants.{Pointer, Nothing}
 use Rattle.allocator.specs.Sizes.{acceptedSize}
-use Rattle.allocator.specs.Allocator.{Step, readAllocator, layAllocator, readWord, withSize, withWords, popped, grown, allocate, release, setChunkSize}
+use Rattle.allocator.specs.Allocator.{Step, readAllocator, layAllocator, readWord, withSize, withWords, allocate, release, setChunkSize}
 use Rattle.allocator.specs.Words.{Formed, lastFree, withoutLast}
+use Rattle.allocator.proofs.Ways.{takes-new, takes-last}
 use Rattle.allocator.proofs.Laid.{first-word, laid-again, read-fits, put-size, put-count, put-next, put-free}
 
 -- ---- the last free pointer
@@ -56,20 +57,12 @@ module _ (l : List ℕ) (b : Bytes l) (f : Formed l) where
   unfolding readAllocator
   pointer-at k h = sym (table-at readWord 8 l 128 (length l / 8 - 16) k 0 (omega (arith, f .whole)) ∙ first-word l (128 + 8 * k))
 
-  takes-new : word l 16 ≡ 0 → allocate (readAllocator l) ≡ grown (readAllocator l)
-  unfolding allocate readAllocator
-  takes-new e = sym (pick-true _ (grown (readAllocator l)) (popped (readAllocator l)) _ (eq-eqb _ _ e) refl)
-
-  takes-last : (word l 16 ≡ 0 → ⊥) → allocate (readAllocator l) ≡ popped (readAllocator l)
-  unfolding allocate readAllocator
-  takes-last h = sym (pick-false _ (grown (readAllocator l)) (popped (readAllocator l)) _ (ne-eqb _ _ h) refl)
-
   pub grow : {r : ℕ} {m n : List ℕ} → word l 16 ≡ 0 → m ≡ withoutLast l → r ≡ word m 24 → n ≡ over m 24 (spell 8 (word m 24 + word m 8))
       → (r ≡ allocate (readAllocator l) .pointer) × (n ≡ layAllocator (allocate (readAllocator l) .after))
   unfolding readAllocator allocate
   grow {r} {m} {n} e p q s =
       let k : m ≡ l = p ∙ sym (none-free l e .1) in
-      let a = takes-new e in (
+      let a = takes-new (readAllocator l) e in (
         q ∙ ap (λ (z : List ℕ). word z 24) k ∙ ap (λ t. t .pointer) (sym a),
         s ∙ ap (λ (z : List ℕ). over z 24 (spell 8 (word z 24 + word z 8))) k ∙ over-l 24 _ ∙ put-next (readAllocator l) (read-fits l b f .twelve) _ ∙ ap (λ t. layAllocator (t .after)) (sym a),
       )
@@ -88,7 +81,7 @@ module _ (l : List ℕ) (b : Bytes l) (f : Formed l) where
           let n = eqb-false _ _ z in
           let s = some-free l {n = word l 16} {p = word l (128 + 8 * (word l 16 - 1))} refl n refl refl in
           let q : p ≡ word l (128 + 8 * (word l 16 - 1)) = cc in
-          let a = takes-last n in (
+          let a = takes-last (readAllocator l) n in (
             q ∙ pointer-at (word l 16 - 1) (omega (arith, f .count)) ∙ ap (λ t. t .pointer) (sym a),
             w ∙ sym (s .1) ∙ over-l 16 _ ∙ put-count (readAllocator l) (read-fits l b f .twelve) _ ∙ ap (λ t. layAllocator (t .after)) (sym a),
           )

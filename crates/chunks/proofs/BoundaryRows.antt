@@ -3,8 +3,8 @@
 use mathlib.Core.Path.{_≡_, refl, sym, ap, _∙_, subst}
 use mathlib.Core.Bool.{true, false}
 use mathlib.Core.List.{List, [], _∷_, map}
-use mathlib.Core.Option.{none, some}
-use Prim.Native.Nat.{ℕ, zero, _+_, _-_, _≤_, _<_}
+use mathlib.Core.Option.{some}
+use Prim.Native.Nat.{ℕ, _+_, _≤_, _<_}
 use native.Mathlib.Omega.{arith}
 use lib.Dec.{eqb}
 use lib.ListN.{length, take, length-take}
@@ -14,6 +14,7 @@ use Rattle.words.specs.Bytes.{part, over, zeros}
 use Rattle.words.specs.Rule.{pick, both, bit, times, count}
 use Rattle.words.specs.Table.{find, lead, leadOf, insertAt}
 use Rattle.words.proofs.Rules.{pick-true, pick-false}
+use Rattle.words.proofs.Written.{over-at}
 use Rattle.types.specs.Sizes.{mostSize}
 use Rattle.types.specs.Outcomes.{done}
 use Rattle.types.specs.Nodes.{kindByte, fileLimit}
@@ -27,8 +28,7 @@ use Rattle.volume.specs.Sound.{node, roundUp, Good}
 use Rattle.volume.specs.Steps.{Step, becomes, withNode}
 use Rattle.allocator.specs.Allocator.{free, allocate, release}
 use Rattle.allocator.proofs.Accounts.{due-none}
-use Rattle.chunks.proofs.FoundRows.{over-at}
-use Rattle.chunks.proofs.Changed.{node-is}
+use Rattle.chunks.proofs.NodeRows.{node-is}
 use Rattle.tables.specs.Tables.{sized}
 use Rattle.chunks.specs.Content.{chunk, byteAt, bytesFrom}
 use Rattle.chunks.specs.Store.{only, goes, released, cutFrom, room, missing, writeChunks, writeChunk, put, putFor, ensured, ensuredFor, taken}

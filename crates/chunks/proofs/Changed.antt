@@ -14,19 +14,15 @@ use Rattle.words.specs.Rule.{pick}
 use Rattle.words.specs.Table.{Each, Asc, find}
 use Rattle.words.proofs.Rules.{Says, holds, fails, says-eqb}
 use Rattle.words.proofs.Order.{each-at, each-map}
+use Rattle.words.proofs.FoundRows.{found-passes}
 use Rattle.types.specs.declared.NodeRecord.{NodeRecord}
 use Rattle.volume.specs.Rows.{readNode}
-use Rattle.volume.specs.Volume.{Volume}
-use Rattle.volume.specs.Sound.{node, nodeBefore}
-use Rattle.volume.specs.Steps.{changed}
+use Rattle.volume.specs.Volume.{Volume, shown, laid, withNodes}
+use Rattle.volume.specs.Sound.{nodeBefore}
+use Rattle.volume.specs.Steps.{changed, withNode}
 use Rattle.tables.specs.Tables.{nodeAt, foundNode}
 use Rattle.tables.specs.declared.Found.the-variants.{At}
 use Rattle.tables.proofs.Finds.{node-found}
-use Rattle.chunks.proofs.FoundRows.{found-passes}
-
-pub node-is : (n : ℕ) (v : Volume) (r : NodeRecord) → node n v ≡ some r → r .node ≡ n
-unfolding node
-node-is n v r e = eqb-true (r .node) n (found-passes (λ s. eqb (s .node) n) (v .nodes) r e)
 
 -- behind a row of an ascending table no row has its number
 others : (n : ℕ) (r : NodeRecord) (rs : List NodeRecord) → r .node ≡ n → Each (nodeBefore r) rs → Each (λ s. eqb (s .node) n ≡ false) rs
@@ -57,6 +53,11 @@ module _ (n : ℕ) (f : NodeRecord → NodeRecord) where
   changed-set rs i a e =
       let k = node-found n rs i e in
       changed-at rs i a (k .0) (eqb-true _ n (found-passes (λ r. eqb (r .node) n) rs (nodeAt rs i) (k .1)))
+
+  -- the row set where a search found it, in bytes m of a volume that has these nodes
+  pub row-set : (rs : List NodeRecord) (i : ℕ) → Asc nodeBefore rs → At i ≡ foundNode n rs → (v : Volume) → v .nodes ≡ rs → (m : List ℕ) {o : List ℕ} → shown m ≡ v
+      → o ≡ laid (withNodes (set (shown m .nodes) i (f (nodeAt (shown m .nodes) i))) (shown m)) → o ≡ laid (withNode n f v)
+  row-set rs i a h v same m e q = q ∙ rw (e, same) (ap (λ ns. laid (withNodes ns v)) (sym (changed-set rs i a h)))
 
   -- ---- what holds of every row, where it holds of the changed one
 

@@ -15,9 +15,8 @@ use Rattle.words.proofs.Order.{each-map}
 use Rattle.types.specs.Sizes.{mostSize}
 use Rattle.types.specs.Nodes.{limitWord, fileLimit}
 use Rattle.types.specs.declared.FileType.the-variants.{Directory}
-use Rattle.types.specs.declared.Limit.{Limit}
-use Rattle.types.specs.declared.Limit.the-variants.{Unlimited, AtMost}
 use Rattle.types.specs.declared.NodeRecord.{NodeRecord}
+use Rattle.types.proofs.Bytes.{limit-most}
 use Rattle.volume.specs.declared.ChunkRow.{ChunkRow}
 use Rattle.volume.specs.Rows.{Entry}
 use Rattle.volume.specs.Volume.{Volume}
@@ -50,10 +49,6 @@ stands-good es r s t g =
       links = t .links ∙ g .links ∙ ap (λ (k : ℕ). bit (eqb k 0) + naming k es) (sym (t .node));
       size = t .size;
     }
-
-pub limit-most : (m : Limit) → limitWord m ≤ mostSize → fileLimit m ≤ mostSize
-limit-most Unlimited h = omega arith
-limit-most (AtMost n) h = h
 
 stands-fits : (r s : NodeRecord) → Stands r s → limitWord (s .limit) ≤ mostSize → NodeFits r → NodeFits s
 stands-fits r s t h f = record {

@@ -3,28 +3,17 @@
 use mathlib.Core.Path.{_≡_, refl, sym, ap, _∙_}
 use mathlib.Core.List.{List, [], _∷_, _++_}
 use mathlib.Core.Option.{Option, none, some}
-use Prim.Native.Nat.{ℕ, zero, suc, _+_, _-_, _*_, _/_, _%_, _≤_, _<_}
+use Prim.Native.Nat.{ℕ, zero, suc, _+_, _-_, _/_, _%_, _≤_, _<_}
 use native.Mathlib.Nat.{not-suc-le-zero, le-of-suc-le-suc, zero-add, suc-add, add-zero, add-assoc}
 use native.Mathlib.Omega.{arith}
 use lib.ListN.{length, getD, getD-replicate}
 use lib.Seq.{ext-getD, getD-take, getD-drop}
 use Rattle.words.specs.Bytes.{part, zeros}
 use Rattle.words.proofs.Parts.{length-part, length-zeros}
-use Rattle.words.proofs.Multiples.{parts, chunk-of}
+use Rattle.words.proofs.Multiples.{within-chunk, within-rest}
 use Rattle.volume.specs.declared.ChunkRow.{ChunkRow}
 use Rattle.volume.specs.Volume.{Volume}
 use Rattle.chunks.specs.Content.{chunk, byteIn, byteAt, bytesFrom}
-
--- ---- a step that stays in its chunk
-
-module _ (S j i : ℕ) (pos : 0 < S) (h : i < S - j % S) where
-  pub within-chunk : (j + i) / S ≡ j / S
-  within-chunk = chunk-of S (j / S) (j + i) (omega (arith, parts pos j)) (omega (arith, parts pos j))
-
-  pub within-rest : (j + i) % S ≡ j % S + i
-  within-rest =
-      let q : (j + i) / S * S ≡ j / S * S = ap (λ (k : ℕ). k * S) within-chunk in
-      omega (arith, parts pos j, parts pos (j + i))
 
 -- ---- runs of bytes, over any volume and node
 

@@ -1,23 +1,22 @@
 -- A place in the chunk table that follows a node's chunks in order: the first row at or above (n, k) is the row of chunk k or shows
 -- that there is none, and either way says where the first row at or above (n, k + 1) is.
 -- Assumes nothing.
-use mathlib.Core.Path.{_≡_, refl, sym, ap, _∙_}
-use mathlib.Core.Bool.{Bool, true, false, true≢false}
+use mathlib.Core.Path.{_≡_, refl, sym, _∙_}
+use mathlib.Core.Bool.{Bool, true, false}
 use mathlib.Core.Logic.{inl, inr}
-use mathlib.Core.List.{List, [], _∷_}
+use mathlib.Core.List.{List, []}
 use mathlib.Core.Option.{none, some}
-use Prim.Native.Nat.{ℕ, suc, _+_, _≤_, _<_}
-use native.Mathlib.Nat.{not-suc-le-zero, le-of-suc-le-suc}
+use Prim.Native.Nat.{ℕ, _+_, _≤_, _<_}
 use native.Mathlib.Omega.{arith}
 use native.Mathlib.Decide.{decLt}
 use lib.Dec.{eqb, ltb}
-use lib.ListN.{length, getD}
+use lib.ListN.{length}
 use borrow.Author.Tests.{eq-eqb, ne-eqb, lt-ltb, le-ltb}
 use Rattle.words.specs.Rule.{both}
-use Rattle.words.specs.Table.{Asc, Each, lead, leadOf}
-use Rattle.words.proofs.Rules.{Says, holds, fails, says-true, true-says, says-eqb, says-ltb, says-both, stop, go-on}
+use Rattle.words.specs.Table.{Asc, lead}
+use Rattle.words.proofs.Rules.{Says, says-true, true-says, says-false, false-says, says-itself, says-eqb, says-ltb, says-both, stop, go-on}
 use Rattle.words.proofs.Order.{asc-map}
-use Rattle.words.proofs.Search.{lead-above, asc-falls, find-found, find-missing}
+use Rattle.words.proofs.Search.{lead-above, lead-stays, lead-next, asc-falls, find-found, find-missing}
 use Rattle.volume.specs.declared.ChunkRow.{ChunkRow}
 use Rattle.volume.specs.Rows.{readChunk}
 use Rattle.volume.specs.Search.{chunkUnder}
@@ -25,49 +24,6 @@ use Rattle.volume.specs.Sound.{chunkBefore}
 use Rattle.tables.specs.Tables.{chunkAt, isChunk}
 use Rattle.tables.proofs.Finds.{PairBefore, says-pair, pair-falls}
 use Rattle.chunks.specs.Content.{chunk}
-
--- ---- two tests, of which the second lets at most one row more pass
-
-module _ {R : Type 0} (f g : R → Bool) (d : R) (wider : (r : R) → f r ≡ true → g r ≡ true) where
-  pub lead-stays : (rs : List R) → (lead f rs < length rs → g (getD rs (lead f rs) d) ≡ false) → lead g rs ≡ lead f rs
-  unfolding lead leadOf
-  lead-stays [] h = refl
-  lead-stays (r ∷ rs) h = go (f r) refl h (lead-stays rs)
-    where
-      go : (t : Bool) → f r ≡ t → (leadOf t (lead f rs) < suc (length rs) → g (getD (r ∷ rs) (leadOf t (lead f rs)) d) ≡ false)
-          → ((lead f rs < length rs → g (getD rs (lead f rs) d) ≡ false) → lead g rs ≡ lead f rs) → leadOf (g r) (lead g rs) ≡ leadOf t (lead f rs)
-      go true q z i = rw (wider r q) (ap suc (i (λ b. z (omega arith))))
-      go false q z i = let e : g r ≡ false = z (omega arith) in rw e
-
-  module _ (lt : R → R → Type 0) (after : (a b : R) → lt a b → f a ≡ false → g b ≡ false) where
-    stops : (r : R) (rs : List R) → f r ≡ false → Each (lt r) rs → lead g rs ≡ 0
-    unfolding lead leadOf Each
-    stops r [] q h = refl
-    stops r (s ∷ rs) q h = rw (after r s (h .0) q)
-
-    pub lead-next : (rs : List R) → Asc lt rs → lead f rs < length rs → g (getD rs (lead f rs) d) ≡ true → lead g rs ≡ lead f rs + 1
-    unfolding lead leadOf Asc
-    lead-next [] a b h = absurd (not-suc-le-zero b)
-    lead-next (r ∷ rs) a b h = go (f r) refl b h (lead-next rs (a .1))
-      where
-        go : (t : Bool) → f r ≡ t → leadOf t (lead f rs) < suc (length rs) → g (getD (r ∷ rs) (leadOf t (lead f rs)) d) ≡ true
-            → (lead f rs < length rs → g (getD rs (lead f rs) d) ≡ true → lead g rs ≡ lead f rs + 1) → leadOf (g r) (lead g rs) ≡ leadOf t (lead f rs) + 1
-        go true q b z i = let e : lead g rs ≡ lead f rs + 1 = i (le-of-suc-le-suc b) z in rw (wider r q) (omega arith)
-        go false q b z i = rw (z, stops r rs q (a .0))
-
--- ---- a test that fails
-
-pub false-says : {P : Type 0} {t : Bool} → Says P t → (P → ⊥) → t ≡ false
-false-says (holds p) h = absurd (h p)
-false-says (fails p) h = refl
-
-pub says-false : {P : Type 0} {t : Bool} → Says P t → t ≡ false → P → ⊥
-says-false (holds p) e q = true≢false e
-says-false (fails p) e q = p q
-
-says-itself : (b : Bool) → Says (b ≡ true) b
-says-itself true = holds refl
-says-itself false = fails (λ e. true≢false (sym e))
 
 -- ---- keys (n, k) and (n, k + 1)
 

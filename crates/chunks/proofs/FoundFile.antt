@@ -2,7 +2,7 @@
 -- Assumes nothing.
 use mathlib.Core.Path.{_≡_, refl, sym, _∙_}
 use mathlib.Core.Bool.{Bool, true, false}
-use mathlib.Core.List.{List, []}
+use mathlib.Core.List.{List}
 use mathlib.Core.Option.{Option, none, some}
 use Prim.Native.Nat.{ℕ, _<_}
 use native.Mathlib.Omega.{arith}
@@ -11,15 +11,12 @@ use lib.Dec.{eqb}
 use lib.ListN.{length}
 use Rattle.words.specs.Rule.{pick}
 use Rattle.words.specs.Table.{Asc}
-use Rattle.words.proofs.Order.{each-at}
 use Rattle.words.proofs.Rules.{pick-true, pick-false}
 use Rattle.types.specs.Nodes.{kindByte}
 use Rattle.types.specs.declared.Error.{Error}
 use Rattle.types.specs.declared.Error.the-variants.{NoSuchEntry, IsDirectory}
 use Rattle.types.specs.declared.NodeRecord.{NodeRecord}
-use Rattle.volume.specs.Rows.{readNode}
 use Rattle.volume.specs.Volume.{Volume}
-use Rattle.volume.specs.Framed.{NodeFits, Fits}
 use Rattle.volume.specs.Sound.{node, nodeBefore}
 use Rattle.tables.specs.Tables.{nodeAt, foundNode}
 use Rattle.tables.specs.declared.Found.{Found}
@@ -30,7 +27,7 @@ use Rattle.tables.proofs.Finds.{node-found, node-absent}
 use Rattle.chunks.specs.declared.files.FileRow.{FileRow}
 use Rattle.chunks.specs.declared.files.FileRow.the-variants.{At, Refused}
 use Rattle.chunks.specs.Files.{fileAt, fileFound}
-use Rattle.chunks.proofs.Changed.{node-is}
+use Rattle.chunks.proofs.NodeRows.{node-is}
 
 -- ---- the ends of the search
 
@@ -83,12 +80,8 @@ module _ (n : ℕ) (v : Volume) {r : FileRow} {i : ℕ} (k : r ≡ At i) (h : r 
   pub file-place : i < length (v .nodes)
   file-place = there .place
 
-  module _ {d : NodeRecord} (q : d ≡ nodeAt (v .nodes) i) where
-    pub file-found : File n v i d
-    file-found = rw q there
-
-    pub row-fits : Fits v → NodeFits d
-    row-fits f = rw q (each-at NodeFits (v .nodes) i (readNode []) (f .nodeRows) file-place)
+  pub file-found : {d : NodeRecord} → d ≡ nodeAt (v .nodes) i → File n v i d
+  file-found q = rw q there
 
 -- ---- what is not
 

@@ -1,8 +1,8 @@
 -- The chunks of rows freed one after another, and the rows taken out behind that: from the bytes that the steps leave.
 -- Assumes nothing.
 use mathlib.Core.Path.{_≡_, refl, sym, ap, _∙_}
-use mathlib.Core.List.{List, [], _∷_, _++_, map}
-use Prim.Native.Nat.{ℕ, _+_, _-_, _≤_, _<_}
+use mathlib.Core.List.{List, [], _∷_, _++_, map, map-append}
+use Prim.Native.Nat.{ℕ, _+_, _≤_, _<_}
 use native.Mathlib.Numerals.{add-one}
 use native.Mathlib.Omega.{arith}
 use lib.ListN.{length, take, drop, length-map, length-drop}
@@ -17,18 +17,13 @@ use Rattle.volume.specs.Volume.{Volume, shown, laid, withAllocator, withChunks}
 use Rattle.volume.specs.Framed.{ChunkFits, Fits}
 use Rattle.volume.specs.Search.{chunkUnder}
 use Rattle.volume.specs.Sound.{Good}
-use Rattle.volume.proofs.Laid.{shown-laid}
-use Rattle.tables.specs.Tables.{Ready, layoutAt, chunkAt}
-use Rattle.tables.proofs.Rooms.{ready-laid}
+use Rattle.tables.specs.Tables.{Ready, chunkAt}
+use Rattle.tables.proofs.Rooms.{shown-as, ready-as}
 use Rattle.chunks.specs.Store.{released, cutFrom}
 use Rattle.chunks.proofs.Stored.{good-stored}
 use Rattle.chunks.proofs.Released.{freed-all, release-last, pointers-small, released-fits}
 use Rattle.chunks.proofs.Cut.{rows-and-free, cut-fits}
 use Rattle.chunks.proofs.Runs.{ofNode, run-goes, run-stays, run-ends}
-
-map-last : {R : Type 0} (f : R → ℕ) (rs : List R) (r : R) → map f (rs ++ (r ∷ [])) ≡ map f rs ++ (f r ∷ [])
-map-last f [] r = refl
-map-last f (s ∷ rs) r = ap (λ (l : List ℕ). f s ∷ l) (map-last f rs r)
 
 -- the pointers of i rows from row first on
 abbrev pub pointers : List ℕ → ℕ → ℕ → List ℕ
@@ -54,10 +49,10 @@ module _ (l : List ℕ) (y : Layout) (r : Ready l y) (first n : ℕ) (inside : f
 
   module _ (i : ℕ) {m : List ℕ} (e : m ≡ laid (freedTo l first i)) (h : i ≤ n) where
     pub freed-shown : shown m ≡ freedTo l first i
-    freed-shown = ap shown e ∙ shown-laid (freedTo l first i) (freed-fits i h)
+    freed-shown = shown-as (freedTo l first i) (freed-fits i h) e
 
     pub freed-ready : Ready m y
-    freed-ready = rw (e, r .layout) (ready-laid (freedTo l first i) (freed-fits i h))
+    freed-ready = ready-as (freedTo l first i) (freed-fits i h) e (r .layout)
 
     pub still-rows : length (shown m .chunks) ≡ length (shown l .chunks)
     still-rows = ap (λ v. length (v .chunks)) freed-shown
@@ -77,7 +72,7 @@ module _ (l : List ℕ) (y : Layout) (r : Ready l y) (first n : ℕ) (inside : f
 
         one-more : release (chunkAt (shown l .chunks) (first + i) .pointer) (released (pointers l first i) (shown l .allocator)) ≡ released (pointers l first (i + 1)) (shown l .allocator)
         one-more =
-            sym (ap (λ ps. released ps (shown l .allocator)) (ap (map (λ c. c .pointer)) row ∙ map-last (λ c. c .pointer) (take i cs) (chunkAt (shown l .chunks) (first + i)))
+            sym (ap (λ ps. released ps (shown l .allocator)) (ap (map (λ c. c .pointer)) row ∙ map-append (λ c. c .pointer) (take i cs) (chunkAt (shown l .chunks) (first + i) ∷ []))
             ∙ release-last (pointers l first i) (chunkAt (shown l .chunks) (first + i) .pointer) (shown l .allocator))
 
 -- all of them
@@ -116,10 +111,7 @@ module _ (l : List ℕ) (y : Layout) (r : Ready l y) (g : Good (shown l)) (n c :
   fits = cut-fits n c (shown l) (good-stored (shown l) (r .formed .fits) g) (r .formed .fits)
 
   pub cut-shown : shown m ≡ cutFrom n c (shown l)
-  cut-shown = ap shown e ∙ shown-laid (cutFrom n c (shown l)) fits
+  cut-shown = shown-as (cutFrom n c (shown l)) fits e
 
   pub cut-ready : Ready m y
-  cut-ready = rw (e, r .layout) (rw same at (ready-laid (cutFrom n c (shown l)) fits))
-    where
-      same : layoutAt (cutFrom n c (shown l)) ≡ layoutAt (shown l)
-      same = unfold cutFrom in refl
+  cut-ready = ready-as (cutFrom n c (shown l)) fits e (r .layout ∙ (unfold cutFrom in refl))

@@ -22,6 +22,7 @@ use Rattle.types.specs.Outcomes.{refused, done}
 use Rattle.types.specs.declared.NodeRecord.{NodeRecord}
 use Rattle.types.specs.declared.Error.{Error}
 use Rattle.types.specs.declared.Error.the-variants.{IsDirectory}
+use Rattle.types.proofs.Bytes.{limit-most}
 use Rattle.volume.specs.Rows.{readNode}
 use Rattle.volume.specs.Volume.{Volume}
 use Rattle.volume.specs.Framed.{NodeFits, Fits}
@@ -33,9 +34,8 @@ use Rattle.chunks.specs.Files.{fileFound}
 use Rattle.chunks.specs.Content.{byteAt, bytesFrom}
 use Rattle.chunks.specs.Read.{readCount, read, readFrom}
 use Rattle.chunks.proofs.Content.{length-from, from-at}
-use Rattle.chunks.proofs.Changed.{node-is}
 use Rattle.chunks.proofs.FoundFile.{File, file-found, file-refused}
-use Rattle.chunks.proofs.Changing.{limit-most}
+use Rattle.chunks.proofs.NodeRows.{node-is}
 
 -- ---- sizes
 

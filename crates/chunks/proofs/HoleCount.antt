@@ -21,7 +21,7 @@ use Rattle.chunks.specs.Store.{hole, missing}
 use Rattle.chunks.specs.Write.{firstOf, numOf, holes}
 use Rattle.chunks.proofs.Cursor.{row-yes, row-no}
 
-hole-most : (o : Option ChunkRow) → hole o ≤ 1
+pub hole-most : (o : Option ChunkRow) → hole o ≤ 1
 hole-most none = omega arith
 hole-most (some c) = omega arith
 

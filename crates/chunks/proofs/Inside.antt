@@ -1,24 +1,16 @@
 -- What the account of the pointers says of a chunk's row: its chunk lies in the chunk area.
 -- Assumes nothing.
-use mathlib.Core.List.{List, [], _∷_, map}
-use Prim.Native.Nat.{ℕ, zero, suc, _+_, _≤_, _<_}
-use native.Mathlib.Nat.{not-suc-le-zero, le-of-suc-le-suc}
+use mathlib.Core.List.{map}
+use Prim.Native.Nat.{ℕ, _+_, _≤_, _<_}
 use native.Mathlib.Omega.{arith}
-use lib.ListN.{length, getD}
-use Rattle.words.specs.Rule.{count}
-use Rattle.words.proofs.Counting.{count-cons, bit-same}
+use lib.ListN.{length}
 use Rattle.words.proofs.Multiples.{gap}
+use Rattle.words.proofs.FoundRows.{counted}
 use Rattle.allocator.specs.Pointers.{Accounted}
 use Rattle.allocator.proofs.Accounts.{Due, live-once}
 use Rattle.volume.specs.Volume.{Volume}
 use Rattle.volume.specs.Sound.{Good}
 use Rattle.tables.specs.Tables.{chunkAt}
-
--- what a list holds is counted in it
-pub counted : {R : Type 0} (f : R → ℕ) (d : R) (rs : List R) (i : ℕ) → i < length rs → 1 ≤ count (f (getD rs i d)) (map f rs)
-counted f d [] i h = absurd (not-suc-le-zero h)
-counted f d (r ∷ rs) zero h = omega (arith, count-cons (f r) (f r) (map f rs), bit-same (f r))
-counted f d (r ∷ rs) (suc i) h = omega (arith, count-cons (f (getD rs i d)) (f r) (map f rs), counted f d rs i (le-of-suc-le-suc h))
 
 module _ (v : Volume) (g : Good v) where
   pub accounted : Accounted (v .allocator) (map (λ c. c .pointer) (v .chunks))

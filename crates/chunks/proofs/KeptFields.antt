@@ -12,15 +12,16 @@ use Rattle.words.proofs.Order.{each-insert}
 use Rattle.allocator.specs.Allocator.{allocate, wordsOf}
 use Rattle.allocator.proofs.Sized.{accepted-bounds}
 use Rattle.allocator.proofs.Laid as AllocatorLaid
+use Rattle.allocator.proofs.Allocated.{Rest, allocate-rest, allocate-count}
 use Rattle.volume.specs.declared.ChunkRow.{ChunkRow}
 use Rattle.volume.specs.Search.{chunkUnder}
 use Rattle.volume.specs.Volume.{Volume, withAllocator, withChunks}
 use Rattle.volume.specs.Framed.{ChunkFits, Fits}
 use Rattle.volume.proofs.Frames.{fits-allocator, fits-chunks, fits-bytes}
+use Rattle.tables.specs.Tables.{layoutAt}
 use Rattle.chunks.specs.Content.{chunk}
 use Rattle.chunks.specs.Store.{room, hole, taken, ensured, ensuredFor, put, putFor, writeChunk, writeChunks}
 use Rattle.chunks.specs.Write.{written}
-use Rattle.chunks.proofs.Allocated.{Rest, allocate-rest, allocate-count}
 use Rattle.chunks.specs.Stored.{Stored}
 use Rattle.chunks.proofs.TakenChunk.{newRow, given-below, taken-long, taken-stored}
 
@@ -46,6 +47,9 @@ kept-twice a b = record {
   entries = b .entries ∙ a .entries;
   rest = record { mark = b .rest .mark ∙ a .rest .mark; size = b .rest .size ∙ a .rest .size; unread = b .rest .unread ∙ a .rest .unread; words = b .rest .words ∙ a .rest .words };
 }
+
+pub kept-layout : {v w : Volume} → Kept v w → layoutAt w ≡ layoutAt v
+kept-layout k = rw (k .nodeRoom, k .entryRoom, k .chunkRoom)
 
 pub kept-taken : (n k : ℕ) (v : Volume) → Kept v (taken n k v)
 unfolding taken

@@ -1,45 +1,36 @@
 -- Chunk after chunk: where the row of the next index is, and the loop that writes them.
 -- Assumes nothing.
 use mathlib.Core.Path.{_≡_, refl, sym, ap, _∙_}
-use mathlib.Core.Bool.{Bool, true, false}
 use mathlib.Core.Logic.{inl, inr}
-use mathlib.Core.List.{List, [], _∷_}
+use mathlib.Core.List.{List}
 use mathlib.Core.Option.{Option, none, some}
 use Prim.Native.Nat.{ℕ, suc, _+_, _-_, _*_, _/_, _^_, _≤_, _<_}
 use native.Mathlib.Nat.{add-zero, sub-zero}
 use native.Mathlib.Omega.{arith}
 use lib.ListN.{length}
-use Rattle.words.specs.Table.{lead, leadOf, insertAt}
+use Rattle.words.specs.Table.{lead}
+use Rattle.words.proofs.Rules.{false-says}
+use Rattle.words.proofs.Search.{lead-insert}
 use Rattle.volume.specs.declared.Layout.{Layout}
 use Rattle.volume.specs.declared.ChunkRow.{ChunkRow}
 use Rattle.volume.specs.Search.{chunkUnder}
 use Rattle.volume.specs.Volume.{Volume, shown, laid}
-use Rattle.tables.specs.Tables.{Ready, layoutAt}
+use Rattle.tables.specs.Tables.{Ready}
 use Rattle.tables.proofs.Finds.{PairBefore}
+use Rattle.tables.proofs.Rooms.{shown-as, ready-as}
 use Rattle.chunks.specs.Content.{chunk}
 use Rattle.chunks.specs.Store.{room, hole, taken, ensured, ensuredFor, writeChunk, writeChunks}
 use Rattle.chunks.specs.Write.{numOf, holes, written}
 use Rattle.chunks.specs.Stored.{Stored}
-use Rattle.chunks.proofs.Cursor.{says-under, false-says}
+use Rattle.chunks.proofs.Cursor.{says-under}
 use Rattle.chunks.proofs.HoleCount.{hole-lead}
-use Rattle.chunks.proofs.KeptFields.{kept-writeChunk}
+use Rattle.chunks.proofs.KeptFields.{kept-layout, kept-writeChunk}
 use Rattle.chunks.proofs.PutPiece.{Touched, put-rows}
 use Rattle.chunks.proofs.TakenChunk.{newRow}
-use Rattle.chunks.proofs.Takes.{ready-as, shown-as}
 use Rattle.chunks.proofs.WrittenBytes.{written-writable}
 use Rattle.chunks.proofs.WrittenChunks.{Writable, first-touched, first-enough, next-writable, writeChunk-stored, writeChunk-found, fits-writeChunk}
 
 -- ---- the row of the next index
-
--- a row put in where the test first fails, and the test fails on it: it first fails there
-lead-insert : {R : Type 0} (f : R → Bool) (r : R) (rs : List R) → f r ≡ false → lead f (insertAt (lead f rs) r rs) ≡ lead f rs
-unfolding lead leadOf insertAt
-lead-insert f r [] e = rw e
-lead-insert f r (s ∷ rs) e = go (f s) refl (lead-insert f r rs e)
-  where
-    go : (b : Bool) → f s ≡ b → lead f (insertAt (lead f rs) r rs) ≡ lead f rs → lead f (insertAt (leadOf b (lead f rs)) r (s ∷ rs)) ≡ leadOf b (lead f rs)
-    go true q h = rw q (ap suc h)
-    go false q h = rw e
 
 not-before : (n k : ℕ) → PairBefore n k n k → ⊥
 not-before n k (inl h) = omega arith
@@ -119,9 +110,8 @@ module _ (l₀ : List ℕ) (y : Layout) (r : Ready l₀ y) (n offset : ℕ) (bs 
           let w = writeChunk n offset bs k (shown l) in
           let f = fits-writeChunk (shown l) (inv .rest .stored) n offset bs k touched fits-hole (inv .ready .formed .fits) node index in
           let s = shown-as w f e in
-          let p = kept-writeChunk n offset bs k (shown l) in
           let b : first + (i + 1) ≡ suc k = omega arith in
-          let g : layoutAt w ≡ layoutAt (shown l) = rw (p .nodeRoom, p .entryRoom, p .chunkRoom) in
+          let g = kept-layout (kept-writeChunk n offset bs k (shown l)) in
           let q : lead (chunkUnder n (k + 1)) (w .chunks) ≡ lead (chunkUnder n k) (shown l .chunks) + 1 = next-lead (shown l) (inv .rest .stored) n offset bs k touched fits-hole in
           let d : k + 1 ≡ first + (i + 1) = omega arith in
           let c : count - i ≡ suc (count - (i + 1)) = omega arith in

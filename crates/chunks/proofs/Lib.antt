@@ -2,7 +2,7 @@ pub mod Content
 pub mod Cursor
 pub mod Inside
 pub mod Pieces
-pub mod FoundRows
+pub mod NodeRows
 pub mod Changed
 pub mod GoodParts
 pub mod Changing
@@ -10,9 +10,8 @@ pub mod FoundFile
 pub mod Given
 pub mod Limited
 pub mod Stored
-pub mod Fills
+pub mod RoomCount
 pub mod Puts
-pub mod Allocated
 pub mod RowPlaces
 pub mod TakenChunk
 pub mod EnsuredChunk
@@ -32,9 +31,10 @@ pub mod Cut
 pub mod Runs
 pub mod Freeing
 pub mod ShrunkBytes
-pub mod Resizes
 pub mod ResizeKept
 pub mod Takes
 pub mod OneChunk
+pub mod Tails
+pub mod Resizes
 pub mod Laps
 pub mod Writes

@@ -1,7 +1,7 @@
 -- What set limit does: its refusals, which leave the volume as it was, and the row that it changes.
 -- Assumes nothing.
 use mathlib.Core.Path.{_≡_, refl, sym, ap, _∙_}
-use mathlib.Core.Bool.{Bool, true, false, false≢true}
+use mathlib.Core.Bool.{Bool, true, false}
 use mathlib.Core.List.{List}
 use mathlib.Core.Option.{Option, none, some}
 use Prim.Native.Nat.{ℕ, _≤_, _<_}
@@ -11,7 +11,7 @@ use lib.ListN.{set}
 use borrow.Author.Tests.{lt-ltb, le-ltb}
 use Rattle.words.specs.Rule.{pick}
 use Rattle.words.specs.Table.{Asc}
-use Rattle.words.proofs.Rules.{Says, holds, fails, says-ltb, pick-true, pick-false}
+use Rattle.words.proofs.Rules.{Says, fails, says-ltb, pick-true, pick-false}
 use Rattle.words.proofs.Order.{each-map}
 use Rattle.types.specs.Sizes.{mostSize}
 use Rattle.types.specs.Nodes.{kindByte, limitWord, fileLimit}
@@ -33,8 +33,9 @@ use Rattle.chunks.specs.declared.files.FileRow.the-variants as row
 use Rattle.chunks.specs.Files.{fileFound}
 use Rattle.chunks.specs.Content.{byteAt}
 use Rattle.chunks.specs.Limits.{limitSet, setLimit}
-use Rattle.chunks.proofs.Changed.{node-is, changed-set, find-other}
 use Rattle.chunks.proofs.FoundFile.{File, file-found, file-refused}
+use Rattle.chunks.proofs.NodeRows.{node-is, no-directory}
+use Rattle.chunks.proofs.Changed.{row-set, find-other}
 use Rattle.chunks.proofs.GoodParts.{ChunksOwned}
 use Rattle.chunks.proofs.Changing.{Stands, owned-changed, good-changed, fits-changed}
 
@@ -52,28 +53,27 @@ module _ (n : ℕ) (m : Limit) (l : List ℕ) (w : laid (shown l) ≡ l) (a : As
   unfolding setLimit limitSet
   limit-refused {r} {e} k h = meets (stays e (shown l)) _ (sym w) (file-refused (λ z. stays z (shown l)) (limitSet m (shown l)) _ refl (λ z. refl) n (shown l) a k h)
 
-  module _ {r : FileRow} {i : ℕ} (k : r ≡ row.At i) (h : r ≡ fileFound n (shown l .nodes)) where
-    module _ {d : NodeRecord} (q : d ≡ nodeAt (shown l .nodes) i) {x : ℕ} (p : x ≡ limitWord m) where
-      its : File n (shown l) i d
-      its = file-found n (shown l) k h q
+  module _ {r : FileRow} {i : ℕ} (k : r ≡ row.At i) (h : r ≡ fileFound n (shown l .nodes)) {d : NodeRecord} (q : d ≡ nodeAt (shown l .nodes) i) {x : ℕ} (p : x ≡ limitWord m) where
+    its : File n (shown l) i d
+    its = file-found n (shown l) k h q
 
-      pub limit-above : mostSize < x → Meets (Refused InvalidArgument) l (setLimit n m (shown l))
+    pub limit-above : mostSize < x → Meets (Refused InvalidArgument) l (setLimit n m (shown l))
+    unfolding setLimit limitSet
+    limit-above e = meets (stays InvalidArgument (shown l)) _ (sym w) (rw (its .row) (pick-false _ _ _ _ (its .file) (pick-true _ _ _ _ (rw (← p) (lt-ltb _ _ e)) refl)))
+
+    module _ (s : x ≤ mostSize) {z : ℕ} (o : z ≡ fileLimit m) where
+      pub limit-below : z < d .size → Meets (Refused FileTooLarge) l (setLimit n m (shown l))
       unfolding setLimit limitSet
-      limit-above e = meets (stays InvalidArgument (shown l)) _ (sym w) (rw (its .row) (pick-false _ _ _ _ (its .file) (pick-true _ _ _ _ (rw (← p) (lt-ltb _ _ e)) refl)))
+      limit-below e =
+          meets (stays FileTooLarge (shown l)) _ (sym w)
+          (rw (its .row) (pick-false _ _ _ _ (its .file) (pick-false _ _ _ _ (rw (← p) (le-ltb _ _ s)) (pick-true _ _ _ _ (rw (← o) (lt-ltb _ _ e)) refl))))
 
-      module _ (s : x ≤ mostSize) {z : ℕ} (o : z ≡ fileLimit m) where
-        pub limit-below : z < d .size → Meets (Refused FileTooLarge) l (setLimit n m (shown l))
-        unfolding setLimit limitSet
-        limit-below e =
-            meets (stays FileTooLarge (shown l)) _ (sym w)
-            (rw (its .row) (pick-false _ _ _ _ (its .file) (pick-false _ _ _ _ (rw (← p) (le-ltb _ _ s)) (pick-true _ _ _ _ (rw (← o) (lt-ltb _ _ e)) refl))))
-
-        pub limit-done : d .size ≤ z → {y : List ℕ} → y ≡ laid (withNodes (set (shown l .nodes) i (limited m (nodeAt (shown l .nodes) i))) (shown l)) → Meets (Done 0) y (setLimit n m (shown l))
-        unfolding setLimit limitSet
-        limit-done e {y} g =
-            let same : y ≡ laid (withNode (d .node) (limited m) (shown l)) = rw (its .number, changed-set n (limited m) (shown l .nodes) i a (its .found)) g in
-            meets (becomes 0 (withNode (d .node) (limited m) (shown l))) _ same
-            (rw (its .row) (pick-false _ _ _ _ (its .file) (pick-false _ _ _ _ (rw (← p) (le-ltb _ _ s)) (pick-false _ _ _ _ (rw (← o) (le-ltb _ _ e)) refl))))
+      pub limit-done : d .size ≤ z → {y : List ℕ} → y ≡ laid (withNodes (set (shown l .nodes) i (limited m (nodeAt (shown l .nodes) i))) (shown l)) → Meets (Done 0) y (setLimit n m (shown l))
+      unfolding setLimit limitSet
+      limit-done e {y} g =
+          let same : y ≡ laid (withNode (d .node) (limited m) (shown l)) = rw (its .number) (row-set n (limited m) (shown l .nodes) i a (its .found) (shown l) refl l refl g) in
+          meets (becomes 0 (withNode (d .node) (limited m) (shown l))) _ same
+          (rw (its .row) (pick-false _ _ _ _ (its .file) (pick-false _ _ _ _ (rw (← p) (le-ltb _ _ s)) (pick-false _ _ _ _ (rw (← o) (le-ltb _ _ e)) refl))))
 
 -- ---- what it leaves
 
@@ -89,8 +89,7 @@ limit-cases P n m v same other = from-row (node n v) refl
     from-file r e false k true p d q = same
     from-file r e false k false (fails p) true q = same
     from-file r e false k false (fails p) false (fails q) =
-        let file : r .kind ≡ Directory → ⊥ = λ z. false≢true (sym k ∙ ap (λ t. eqb (kindByte t) 0) z) in
-        rw (node-is n v r e) (other r e file (omega arith) (omega arith))
+        rw (node-is n v r e) (other r e (no-directory (r .kind) k) (omega arith) (omega arith))
 
     from-row : (o : Option NodeRecord) → node n v ≡ o → P (limitSet m v o .after)
     from-row none e = same

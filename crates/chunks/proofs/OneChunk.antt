@@ -11,17 +11,17 @@ use lib.ListN.{length, take, drop}
 use Rattle.words.specs.Bytes.{part, over}
 use Rattle.words.specs.Rule.{both}
 use Rattle.words.specs.Table.{lead}
+use Rattle.words.proofs.Written.{length-lent}
 use Rattle.allocator.specs.Allocator.{allocate}
 use Rattle.volume.specs.declared.ChunkRow.{ChunkRow}
 use Rattle.volume.specs.Search.{chunkUnder}
 use Rattle.volume.specs.Volume.{Volume, laid, withBytes}
 use Rattle.tables.specs.Tables.{chunkAt, isChunk}
 use Rattle.chunks.specs.Content.{chunk}
-use Rattle.chunks.specs.Store.{room, hole, taken, ensured, ensuredFor, lowOf, highOf, pieceOf, put, writeChunk}
+use Rattle.chunks.specs.Store.{room, hole, taken, ensured, ensuredFor, lowOf, highOf, pieceOf, writeChunk}
 use Rattle.chunks.specs.Stored.{Stored}
 use Rattle.chunks.proofs.Cursor.{row-yes, row-no}
 use Rattle.chunks.proofs.KeptFields.{kept-taken}
-use Rattle.chunks.proofs.Pieces.{length-lent}
 use Rattle.chunks.proofs.PutPiece.{Touched, put-is}
 use Rattle.chunks.proofs.RowPlaces.{row-inside-found}
 use Rattle.chunks.proofs.TakenChunk.{newRow, taken-here, taken-stored}
@@ -31,6 +31,22 @@ lent-piece : (s offset : ℕ) (bs : List ℕ) (k : ℕ) {start count : ℕ} → 
 lent-piece s offset bs k {start} {count} e f =
     let w : start + count - start ≡ count = omega arith in
     rw (w, e, f) (unfold part in refl)
+
+-- the piece put into its chunk
+module _ (v : Volume) (st : Stored v) (n offset : ℕ) (bs : List ℕ) (k : ℕ) (t : Touched (v .allocator .chunkSize) offset (length bs) k) {place : ℕ} {piece : List ℕ}
+    (at : place ≡ lowOf (v .allocator .chunkSize) offset k - k * v .allocator .chunkSize) (e : piece ≡ pieceOf (v .allocator .chunkSize) offset bs k) where
+  -- there is a row
+  pub put-here : (c : ChunkRow) → chunk n k (v .chunks) ≡ some c → withBytes (over (v .bytes) (c .pointer + place) piece) v ≡ writeChunk n offset bs k v
+  unfolding writeChunk ensured ensuredFor
+  put-here c found = rw (found, put-is v st n offset bs k t c found, at, e)
+
+  -- there is none
+  pub put-taken : 1 ≤ room v → chunk n k (v .chunks) ≡ none → withBytes (over (taken n k v .bytes) (allocate (v .allocator) .pointer + place) piece) (taken n k v) ≡ writeChunk n offset bs k v
+  unfolding writeChunk ensured ensuredFor
+  put-taken one gone =
+      let z = kept-taken n k v .rest .size in
+      let u : Touched (taken n k v .allocator .chunkSize) offset (length bs) k = rw z t in
+      rw (gone, put-is (taken n k v) (taken-stored v st one n k gone) n offset bs k u (newRow n k v) (taken-here v st one n k gone), z, at, e)
 
 -- where the piece lies
 abbrev pub Cut : ℕ → ℕ → ℕ → ℕ → ℕ → ℕ → ℕ → Type 0
@@ -70,10 +86,7 @@ module _ (v : Volume) (st : Stored v) (n offset : ℕ) (bs : List ℕ) (k row : 
         row-inside = row-inside-found v st n k c found
 
         pub piece-written : {m : List ℕ} → m ≡ laid (withBytes (over (v .bytes) (c .pointer + place) lent) v) → m ≡ laid (writeChunk n offset bs k v)
-        unfolding writeChunk ensured ensuredFor
-        piece-written {m} w =
-            let a : withBytes (over (v .bytes) (c .pointer + place) lent) v ≡ put n offset bs k v = rw (put-is v st n offset bs k t c found, lent-piece S offset bs k (cut-there .1) (cut-there .2), cut-there .0) in
-            w ∙ rw found (ap laid a)
+        piece-written w = w ∙ ap laid (put-here v st n offset bs k t (cut-there .0) (lent-piece S offset bs k (cut-there .1) (cut-there .2)) c found)
 
     -- there is none
     module _ (e : b ≡ false) where
@@ -85,10 +98,4 @@ module _ (v : Volume) (st : Stored v) (n offset : ℕ) (bs : List ℕ) (k row : 
         room-there = rw row-missing at enough
 
         pub chunk-written : {m : List ℕ} → m ≡ laid (withBytes (over (taken n k v .bytes) (allocate (v .allocator) .pointer + place) lent) (taken n k v)) → m ≡ laid (writeChunk n offset bs k v)
-        unfolding writeChunk ensured ensuredFor
-        chunk-written {m} w =
-            let z = kept-taken n k v .rest .size in
-            let u : Touched (taken n k v .allocator .chunkSize) offset (length bs) k = rw z t in
-            let p = put-is (taken n k v) (taken-stored v st room-there n k row-missing) n offset bs k u (newRow n k v) (taken-here v st room-there n k row-missing) in
-            let a : withBytes (over (taken n k v .bytes) (allocate (v .allocator) .pointer + place) lent) (taken n k v) ≡ put n offset bs k (taken n k v) = rw (p, z, lent-piece S offset bs k (cut-there .1) (cut-there .2), cut-there .0) in
-            w ∙ rw row-missing (ap laid a)
+        chunk-written w = w ∙ ap laid (put-taken v st n offset bs k t (cut-there .0) (lent-piece S offset bs k (cut-there .1) (cut-there .2)) room-there row-missing)

@@ -14,7 +14,7 @@ use Rattle.volume.specs.Sound.{node, Good}
 use Rattle.chunks.specs.Posix.{fileOf, GapReadsZero, EmptyHasNoResults}
 use Rattle.chunks.specs.Write.{write}
 use Rattle.chunks.proofs.Stored.{good-stored}
-use Rattle.chunks.proofs.Changed.{node-is}
+use Rattle.chunks.proofs.NodeRows.{node-is}
 use Rattle.chunks.proofs.OwnedContent.{zero-above}
 use Rattle.chunks.proofs.WriteKept.{write-shows, write-empty}
 

@@ -14,6 +14,7 @@ use Rattle.words.proofs.Rules.{Says, holds, fails}
 use Rattle.words.proofs.Parts.{length-part, length-over}
 use Rattle.words.proofs.Numbers.{getD-over-before, getD-over-after}
 use Rattle.words.proofs.Multiples.{parts}
+use Rattle.words.proofs.Written.{part-at, over-at}
 use Rattle.volume.specs.declared.ChunkRow.{ChunkRow}
 use Rattle.volume.specs.Volume.{Volume, withBytes}
 use Rattle.volume.specs.Framed.{Fits}
@@ -22,7 +23,6 @@ use Rattle.tables.specs.Tables.{isChunk}
 use Rattle.chunks.specs.Content.{chunk, byteIn, byteAt}
 use Rattle.chunks.specs.Store.{room, lowOf, highOf, pieceOf, put, putFor}
 use Rattle.chunks.proofs.Cursor.{says-chunk}
-use Rattle.chunks.proofs.FoundRows.{part-at, over-at}
 use Rattle.chunks.specs.Stored.{Stored}
 use Rattle.chunks.proofs.RowPlaces.{Other, elsewhere, row-inside-found, rows-far}
 

@@ -7,13 +7,13 @@ use native.Mathlib.Omega.{arith}
 use lib.ListN.{length, take, drop}
 use Rattle.words.specs.Bytes.{part, over}
 use Rattle.words.proofs.Parts.{length-part, length-over, lent-at}
+use Rattle.words.proofs.Written.{part-written}
 use Rattle.volume.specs.declared.Layout.{Layout}
 use Rattle.volume.specs.Volume.{shown, laid, atBytes, withBytes}
 use Rattle.volume.proofs.Laid.{spaced}
 use Rattle.volume.proofs.Lens.{onto, write-bytes}
 use Rattle.tables.specs.Tables.{Ready}
 use Rattle.tables.proofs.Rooms.{rooms, area-long}
-use Rattle.chunks.proofs.Fills.{part-written}
 use Rattle.chunks.proofs.Pieces.{area-lent}
 
 module _ (l : List ℕ) (y : Layout) (r : Ready l y) (p : ℕ) {s : ℕ} (size : (s ≡ shown l .allocator .chunkSize) × (0 < s) × (s ≤ 65536)) (inside : p + shown l .allocator .chunkSize ≤ length (shown l .bytes)) where

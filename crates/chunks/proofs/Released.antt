@@ -7,14 +7,13 @@ use native.Mathlib.Nat.{add-zero}
 use native.Mathlib.Omega.{arith}
 use lib.ListN.{length, set, length-set}
 use Rattle.words.specs.Table.{Each}
-use Rattle.words.proofs.Order.{each-append, each-left, each-right}
+use Rattle.words.proofs.Order.{each-append, each-left, each-right, each-set}
 use Rattle.allocator.specs.Allocator.{Allocator, free, release, wordsOf}
 use Rattle.allocator.proofs.Accounts.{freed-words}
 use Rattle.allocator.proofs.Laid as AllocatorLaid
 use Rattle.volume.specs.declared.ChunkRow.{ChunkRow}
 use Rattle.volume.specs.Volume.{Volume, withAllocator}
 use Rattle.volume.specs.Framed.{ChunkFits, Fits}
-use Rattle.volume.proofs.Pieces.{each-set}
 use Rattle.volume.proofs.Laid.{allocator-fits}
 use Rattle.volume.proofs.Frames.{fits-allocator}
 use Rattle.chunks.specs.Store.{released}

@@ -2,7 +2,7 @@
 -- size, its bytes below it and zeros from there on, and all else is as before.
 -- Assumes nothing.
 use mathlib.Core.Path.{_≡_, refl, sym, ap, _∙_}
-use mathlib.Core.Bool.{Bool, true, false, false≢true}
+use mathlib.Core.Bool.{Bool, true, false}
 use mathlib.Core.Option.{Option, none, some}
 use Prim.Native.Nat.{ℕ, _*_, _≤_, _<_}
 use native.Mathlib.Omega.{arith}
@@ -16,6 +16,7 @@ use Rattle.types.specs.declared.Error.{Error}
 use Rattle.types.specs.declared.Error.the-variants.{NoSuchEntry, IsDirectory, FileTooLarge, NoChunkRoom}
 use Rattle.types.specs.declared.FileType.the-variants.{Directory}
 use Rattle.types.specs.declared.NodeRecord.{NodeRecord}
+use Rattle.types.proofs.Bytes.{limit-most}
 use Rattle.volume.specs.declared.ChunkRow.{ChunkRow}
 use Rattle.volume.specs.Volume.{Volume}
 use Rattle.volume.specs.Framed.{NodeFits, Fits}
@@ -28,9 +29,7 @@ use Rattle.chunks.specs.Resize.{cramped, shrunk, resizeFor, resize}
 use Rattle.chunks.specs.Stored.{Stored}
 use Rattle.chunks.specs.Posix.{fileOf, ExtensionShowsZero}
 use Rattle.chunks.proofs.Stored.{good-stored}
-use Rattle.chunks.proofs.FoundRows.{found-each}
-use Rattle.chunks.proofs.Changed.{node-is}
-use Rattle.chunks.proofs.Changing.{limit-most}
+use Rattle.chunks.proofs.NodeRows.{node-is, node-each, no-directory}
 use Rattle.chunks.proofs.OwnedContent.{Reached, zero-above, owned-reached}
 use Rattle.chunks.proofs.SizeSet.{Reshaped, sized-byte, sized-here, sized-other, sized-kept}
 use Rattle.chunks.proofs.ShrunkBytes.{shrunk-nodes, shrunk-entries, shrunk-next, shrunk-size, shrunk-stored, shrunk-fits, shrunk-rows, shrunk-below, shrunk-other, shrunk-low, shrunk-high}
@@ -56,12 +55,10 @@ resize-cases P n z v refusal grown cut = from-row (node n v) refl
     from-file r e false k false (fails p) true q true s = refusal NoChunkRoom
     from-file r e false k false (fails p) true (holds q) false s =
         let i : r .node ≡ n = node-is n v r e in
-        let file : r .kind ≡ Directory → ⊥ = λ y. false≢true (sym k ∙ ap (λ t. eqb (kindByte t) 0) y) in
-        rw i (cut r (record { there = e; file = file; within = omega arith }) q (rw i at s))
+        rw i (cut r (record { there = e; file = no-directory (r .kind) k; within = omega arith }) q (rw i at s))
     from-file r e false k false (fails p) false (fails q) d s =
         let i : r .node ≡ n = node-is n v r e in
-        let file : r .kind ≡ Directory → ⊥ = λ y. false≢true (sym k ∙ ap (λ t. eqb (kindByte t) 0) y) in
-        rw i (grown r (record { there = e; file = file; within = omega arith }) (omega arith))
+        rw i (grown r (record { there = e; file = no-directory (r .kind) k; within = omega arith }) (omega arith))
 
     from-row : (o : Option NodeRecord) → node n v ≡ o → P (resizeFor z v o)
     from-row none e = refusal NoSuchEntry
@@ -92,8 +89,7 @@ module _ (n z : ℕ) (v : Volume) (f : Fits v) (g : Good v) (r : NodeRecord) (a 
   st = good-stored v f g
 
   row-fits : NodeFits r
-  unfolding node
-  row-fits = found-each (λ s. eqb (s .node) n) NodeFits (v .nodes) r (f .nodeRows) (a .there)
+  row-fits = node-each n v r (a .there) NodeFits (f .nodeRows)
 
   -- grown: size only
   same-shape : r .size ≤ z → Reshaped v v n z

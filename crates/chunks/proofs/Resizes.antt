@@ -1,246 +1,40 @@
--- The steps of a resize, from the bytes that they leave.
+-- A resize: the cut and the zeros behind it, its refusals, which leave the volume as it was, and the size that it sets.
 -- Assumes nothing.
 use mathlib.Core.Path.{_≡_, refl, sym, ap, _∙_}
-use mathlib.Core.Bool.{Bool, true, false, not, true≢false}
-use mathlib.Core.List.{List, [], _∷_, _++_, append-nil}
-use mathlib.Core.Option.{none, some}
-use Prim.Native.Nat.{ℕ, zero, suc, _+_, _-_, _*_, _/_, _%_, _^_, _≤_, _<_}
-use native.Mathlib.Nat.{not-suc-le-zero, le-of-suc-le-suc, mod-lt}
+use mathlib.Core.Bool.{Bool, true, false}
+use mathlib.Core.List.{List}
+use Prim.Native.Nat.{ℕ, _^_, _≤_, _<_}
 use native.Mathlib.Omega.{arith}
-use lib.Dec.{eqb, ltb}
-use lib.ListN.{length, take, drop, getD, set}
-use lib.Seq.{take-all}
-use borrow.Author.Tests.{eq-eqb, ne-eqb, lt-ltb, le-ltb}
-use Rattle.words.specs.Bytes.{part, over, zeros}
-use Rattle.words.specs.Rule.{both}
-use Rattle.words.specs.Table.{lead, leadOf, Asc}
-use Rattle.words.proofs.Parts.{length-zeros, zeros-add, over-mid, over-nil}
-use Rattle.words.proofs.Multiples.{parts}
-use Rattle.words.proofs.Rules.{stop, go-on, pick-true, pick-false}
+use lib.ListN.{length, set}
+use borrow.Author.Tests.{lt-ltb, le-ltb}
+use Rattle.words.proofs.Rules.{pick-true, pick-false}
 use Rattle.types.specs.Nodes.{fileLimit}
 use Rattle.types.specs.declared.Answer.the-variants.{Done, Refused}
 use Rattle.types.specs.declared.Error.{Error}
 use Rattle.types.specs.declared.Error.the-variants.{FileTooLarge, NoChunkRoom}
 use Rattle.types.specs.declared.NodeRecord.{NodeRecord}
-use Rattle.allocator.specs.Allocator.{allocate}
+use Rattle.types.proofs.Bytes.{limit-most}
 use Rattle.volume.specs.declared.Layout.{Layout}
-use Rattle.volume.specs.declared.ChunkRow.{ChunkRow}
 use Rattle.volume.specs.Framed.{NodeFits, Fits}
-use Rattle.volume.specs.Search.{chunkUnder}
-use Rattle.volume.specs.Volume.{Volume, shown, laid, withBytes, withNodes}
-use Rattle.volume.specs.Sound.{chunkBefore, roundUp, Good}
+use Rattle.volume.specs.Volume.{shown, laid, withNodes}
+use Rattle.volume.specs.Sound.{roundUp, Good}
 use Rattle.volume.specs.Steps.{stays, becomes, withNode}
-use Rattle.volume.proofs.Laid.{shown-laid}
-use Rattle.tables.specs.Tables.{Ready, nodeAt, chunkAt, isChunk, layoutAt, sized}
+use Rattle.tables.specs.Tables.{Ready, nodeAt, layoutAt, sized}
 use Rattle.chunks.specs.declared.files.FileRow.{FileRow}
 use Rattle.chunks.specs.declared.files.FileRow.the-variants as row
 use Rattle.chunks.specs.Files.{fileFound}
-use Rattle.tables.proofs.Rooms.{ready-laid}
-use Rattle.chunks.specs.Content.{chunk}
-use Rattle.chunks.specs.Store.{room, hole, taken, ensured, ensuredFor, put, lowOf, highOf, pieceOf, writeChunk, only, goes, cutFrom}
+use Rattle.tables.proofs.Rooms.{shown-as, ready-as}
+use Rattle.chunks.specs.Store.{room, cutFrom}
 use Rattle.chunks.specs.Resize.{cramped, tailZeroed, shrunk, resizeFor, resize}
 use Rattle.chunks.specs.Stored.{Stored}
 use Rattle.chunks.proofs.Stored.{good-stored}
-use Rattle.chunks.proofs.Changed.{changed-set}
-use Rattle.chunks.proofs.Changing.{limit-most}
-use Rattle.chunks.proofs.FoundFile.{File, file-found, row-fits, file-refused}
+use Rattle.chunks.proofs.FoundFile.{File, file-found, file-refused}
+use Rattle.chunks.proofs.NodeRows.{node-each}
+use Rattle.chunks.proofs.Changed.{row-set}
 use Rattle.chunks.proofs.Limited.{Meets, meets}
-use Rattle.chunks.proofs.Cursor.{row-yes, row-no}
-use Rattle.chunks.proofs.Fills.{over-within}
-use Rattle.chunks.proofs.Puts.{piece-put}
-use Rattle.chunks.proofs.RowPlaces.{row-inside-found}
-use Rattle.chunks.proofs.TakenChunk.{newRow, given-inside, taken-here, taken-stored}
-use Rattle.chunks.proofs.KeptFields.{kept-taken}
-use Rattle.chunks.proofs.PutPiece.{put-is}
 use Rattle.chunks.proofs.Cut.{cut-stored}
-use Rattle.chunks.proofs.Runs.{ofNode, run-ends, run-length}
 use Rattle.chunks.proofs.Freeing.{cut-shown, cut-ready}
-use Rattle.chunks.proofs.ShrunkBytes.{tailNeeds, tail-touched, shrink-enough, shrunk-fits, shrunk-nodes, shrunk-rooms}
-
--- ---- zeros to the end of a chunk
-
-module _ (l : List ℕ) (y : Layout) (r : Ready l y) (p : ℕ) {s : ℕ} (size : (s ≡ shown l .allocator .chunkSize) × (0 < s) × (s ≤ 65536)) (inside : p + shown l .allocator .chunkSize ≤ length (shown l .bytes)) where
-  pub rest-cleared : (place : ℕ) → place ≤ shown l .allocator .chunkSize → {ys : List ℕ} → ys ≡ over (take (y .bytes + p + s - (y .bytes + p)) (drop (y .bytes + p) l)) place (zeros (s - place))
-      → take (y .bytes + p) l ++ (ys ++ drop (y .bytes + p + s - (y .bytes + p)) (drop (y .bytes + p) l)) ≡ laid (withBytes (over (shown l .bytes) (p + place) (zeros (shown l .allocator .chunkSize - place))) (shown l))
-  rest-cleared place h e =
-      piece-put l y r p size inside place (zeros (shown l .allocator .chunkSize - place)) (omega (arith, length-zeros (shown l .allocator .chunkSize - place)))
-      (e ∙ ap (λ (x : ℕ). over (take (y .bytes + p + s - (y .bytes + p)) (drop (y .bytes + p) l)) place (zeros (x - place))) (size .0))
-
--- ---- whether a file has a chunk from an index on
-
-lead-drop : {R : Type 0} (f : R → Bool) (d : R) (rs : List R) (p : ℕ) → p < length rs → f (getD rs p d) ≡ not (eqb (lead f (drop p rs)) 0)
-unfolding lead leadOf
-lead-drop f d [] p h = absurd (not-suc-le-zero h)
-lead-drop f d (r ∷ rs) zero h = go (f r)
-  where
-    go : (b : Bool) → b ≡ not (eqb (leadOf b (lead f rs)) 0)
-    go true = rw (ne-eqb (suc (lead f rs)) 0 (λ q. omega arith))
-    go false = refl
-lead-drop f d (r ∷ rs) (suc p) h = lead-drop f d rs p (le-of-suc-le-suc h)
-
-module _ (n c : ℕ) (cs : List ChunkRow) (sorted : Asc chunkBefore cs) {p used : ℕ} (place : p ≡ lead (chunkUnder n c) cs) (u : used ≡ length cs) where
-  pub none-from : used ≤ p → false ≡ not (eqb (length (only (goes n c) cs)) 0)
-  none-from h =
-      let k : lead (ofNode n) (drop p cs) ≡ 0 = omega (arith, run-ends n c cs sorted place refl) in
-      rw (run-length n c cs sorted place refl, k)
-
-  pub some-from : p < used → {d : ChunkRow} → d ≡ chunkAt cs p → eqb (d .node) n ≡ not (eqb (length (only (goes n c) cs)) 0)
-  some-from h e = rw (run-length n c cs sorted place refl, e) (lead-drop (ofNode n) _ cs p (omega arith))
-
--- ---- whether the last chunk is a hole, and whether there is no room for it
-
-not-true : {a : Bool} (b : Bool) → a ≡ not b → a ≡ true → b ≡ false
-not-true true e h = absurd (true≢false (sym h ∙ e))
-not-true false e h = refl
-
-not-false : {a : Bool} (b : Bool) → a ≡ not b → a ≡ false → b ≡ true
-not-false true e h = refl
-not-false false e h = sym h ∙ e
-
-module _ (n z : ℕ) (v : Volume) {s : ℕ} (size : s ≡ v .allocator .chunkSize) where
-  pub tail-even : z % s ≡ 0 → 0 ≡ tailNeeds n z v
-  tail-even e = rw (← size) (pick-true _ _ _ _ (eq-eqb (z % s) 0 e) refl)
-
-  module _ (sorted : Asc chunkBefore (v .chunks)) (odd : z % s ≡ 0 → ⊥) {p : ℕ} (place : p ≡ lead (chunkUnder n (z / s)) (v .chunks)) {b : Bool}
-      (test : b ≡ both (ltb p (length (v .chunks))) (isChunk n (z / s) (chunkAt (v .chunks) p))) where
-    pub tail-there : b ≡ true → 0 ≡ tailNeeds n z v
-    tail-there e = rw (← size) (pick-false _ _ _ _ (ne-eqb (z % s) 0 odd) (rw (row-yes n (z / s) (v .chunks) sorted place (sym test ∙ e) .1 .0)))
-
-    pub tail-missing : b ≡ false → 1 ≡ tailNeeds n z v
-    tail-missing e = rw (← size) (pick-false _ _ _ _ (ne-eqb (z % s) 0 odd) (rw (row-no n (z / s) (v .chunks) sorted place (sym test ∙ e) .0)))
-
-  module _ {c : ℕ} (up : c ≡ roundUp s z) {b : Bool} (from : b ≡ not (eqb (length (only (goes n c) (v .chunks))) 0)) where
-    from-up : b ≡ not (eqb (length (only (goes n (roundUp (v .allocator .chunkSize) z)) (v .chunks))) 0)
-    from-up = rw (up, size) at from
-
-    pub cramped-frees : b ≡ true → false ≡ cramped n z v
-    unfolding cramped
-    cramped-frees e = stop _ _ (not-true _ from-up e)
-
-    pub cramped-is : b ≡ false → {q t : ℕ} → q ≡ room v → t ≡ tailNeeds n z v → ltb q t ≡ cramped n z v
-    unfolding cramped
-    cramped-is e q t = go-on _ _ (not-false _ from-up e) (rw (q, t))
-
--- ---- the last chunk zeroed
-
-zeros-within : (s i : ℕ) → i ≤ s → over (zeros s) i (zeros (s - i)) ≡ zeros s
-zeros-within s i h =
-    let m : s ≡ i + (s - i) = omega arith in
-    let e : zeros s ≡ zeros i ++ (zeros (s - i) ++ []) = ap zeros m ∙ sym (zeros-add i (s - i)) ∙ ap (λ (t : List ℕ). zeros i ++ t) (sym (append-nil (zeros (s - i)))) in
-    ap (λ (t : List ℕ). over t i (zeros (s - i))) e ∙ over-mid (zeros i) (zeros (s - i)) [] (zeros (s - i)) i (length-zeros i) refl ∙ sym e
-
-part-all : (l : List ℕ) (at n : ℕ) → at ≡ 0 → n ≡ length l → part l at n ≡ l
-unfolding part
-part-all l at n a e = rw (a, e) (take-all (length l) l (omega arith))
-
--- where its row is: zeros from byte z on
-put-zeros : (n z : ℕ) (v : Volume) (st : Stored v) (d : ChunkRow) → chunk n (z / v .allocator .chunkSize) (v .chunks) ≡ some d
-    → put n z (zeros (v .allocator .chunkSize - z % v .allocator .chunkSize)) (z / v .allocator .chunkSize) v
-    ≡ withBytes (over (v .bytes) (d .pointer + z % v .allocator .chunkSize) (zeros (v .allocator .chunkSize - z % v .allocator .chunkSize))) v
-put-zeros n z v st d found =
-    let s = v .allocator .chunkSize in
-    let bs = zeros (s - z % s) in
-    let k = z / s in
-    let m = length-zeros (s - z % s) in
-    let q = parts (st .size) z in
-    let h = mod-lt z (st .size) in
-    let a : d .pointer + (lowOf s z k - k * s) ≡ d .pointer + z % s = omega arith in
-    let b : lowOf s z k - z ≡ 0 = omega arith in
-    let c : highOf s z (length bs) k - lowOf s z k ≡ length bs = omega arith in
-    put-is v st n z bs k (tail-touched n z v st) d found
-    ∙ ap (λ (x : ℕ). withBytes (over (v .bytes) x (pieceOf s z bs k)) v) a
-    ∙ ap (λ (x : List ℕ). withBytes (over (v .bytes) (d .pointer + z % s) x) v) (part-all bs (lowOf s z k - z) (highOf s z (length bs) k - lowOf s z k) b c)
-
-put-tail : (n z : ℕ) (v : Volume) (st : Stored v) (s : ℕ) → s ≡ v .allocator .chunkSize → (d : ChunkRow) → chunk n (z / s) (v .chunks) ≡ some d
-    → put n z (zeros (s - z % s)) (z / s) v ≡ withBytes (over (v .bytes) (d .pointer + z % s) (zeros (s - z % s))) v
-put-tail n z v st s size d found = rw size (put-zeros n z v st d (rw size at found))
-
-write-here : (n offset : ℕ) (bs : List ℕ) (k : ℕ) (v : Volume) (d : ChunkRow) → chunk n k (v .chunks) ≡ some d → writeChunk n offset bs k v ≡ put n offset bs k v
-unfolding writeChunk ensured ensuredFor
-write-here n offset bs k v d e = rw e
-
-write-hole : (n offset : ℕ) (bs : List ℕ) (k : ℕ) (v : Volume) → chunk n k (v .chunks) ≡ none → writeChunk n offset bs k v ≡ put n offset bs k (taken n k v)
-unfolding writeChunk ensured ensuredFor
-write-hole n offset bs k v e = rw e
-
--- where it is taken: it is zeros already
-put-taken : (n z : ℕ) (v : Volume) (st : Stored v) → 1 ≤ room v → chunk n (z / v .allocator .chunkSize) (v .chunks) ≡ none
-    → put n z (zeros (v .allocator .chunkSize - z % v .allocator .chunkSize)) (z / v .allocator .chunkSize) (taken n (z / v .allocator .chunkSize) v) ≡ taken n (z / v .allocator .chunkSize) v
-put-taken n z v st one gone =
-    put-tail n z u (taken-stored v st one n k gone) s (sym same) (newRow n k v) (taken-here v st one n k gone) ∙ ap (λ (x : List ℕ). withBytes x u) again
-  where
-    k : ℕ
-    k = z / v .allocator .chunkSize
-
-    u : Volume
-    u = taken n k v
-
-    s : ℕ
-    s = v .allocator .chunkSize
-
-    same : u .allocator .chunkSize ≡ v .allocator .chunkSize
-    same = kept-taken n k v .rest .size
-
-    again : over (u .bytes) (allocate (v .allocator) .pointer + z % s) (zeros (s - z % s)) ≡ u .bytes
-    again =
-        let g = allocate (v .allocator) .pointer in
-        let h = mod-lt z (st .size) in
-        let a = length-zeros s in
-        let b = length-zeros (s - z % s) in
-        unfold taken in over-within (v .bytes) g (zeros s) (z % s) (zeros (s - z % s)) (omega (arith, given-inside v st one)) (omega arith) ∙ ap (λ (x : List ℕ). over (v .bytes) g x) (zeros-within s (z % s) (omega arith))
-
-tail-odd : (n z : ℕ) (v : Volume) → (z % v .allocator .chunkSize ≡ 0 → ⊥)
-    → writeChunk n z (zeros (v .allocator .chunkSize - z % v .allocator .chunkSize)) (z / v .allocator .chunkSize) v ≡ tailZeroed n z v
-unfolding tailZeroed
-tail-odd n z v h = pick-false _ _ _ _ (ne-eqb _ 0 h) refl
-
-module _ (l : List ℕ) (y : Layout) (r : Ready l y) (n z : ℕ) (st : Stored (shown l)) {s : ℕ} (size : s ≡ shown l .allocator .chunkSize) where
-  pub tail-same : z % s ≡ 0 → l ≡ laid (tailZeroed n z (shown l))
-  unfolding tailZeroed
-  tail-same e = sym (r .formed .same) ∙ ap laid (rw (← size) (pick-true _ _ _ _ (eq-eqb (z % s) 0 e) refl))
-
-  module _ (odd : z % s ≡ 0 → ⊥) {p : ℕ} (place : p ≡ lead (chunkUnder n (z / s)) (shown l .chunks)) {b : Bool}
-      (test : b ≡ both (ltb p (length (shown l .chunks))) (isChunk n (z / s) (chunkAt (shown l .chunks) p))) where
-    odd-size : z % shown l .allocator .chunkSize ≡ 0 → ⊥
-    odd-size = rw (← size) odd
-
-    module _ (e : b ≡ true) where
-      pub tail-row : p < length (shown l .chunks)
-      tail-row = row-yes n (z / s) (shown l .chunks) (st .order) place (sym test ∙ e) .0
-
-      module _ {d : ChunkRow} (q : d ≡ chunkAt (shown l .chunks) p) where
-        its-row : chunk n (z / shown l .allocator .chunkSize) (shown l .chunks) ≡ some d
-        its-row = rw (← size) (row-yes n (z / s) (shown l .chunks) (st .order) place (sym test ∙ e) .1 .0 ∙ ap some (sym q))
-
-        pub clear-asked : Ready l y × (d .pointer + shown l .allocator .chunkSize ≤ length (shown l .bytes)) × (z % s ≤ shown l .allocator .chunkSize)
-        clear-asked =
-            let h : z % s < shown l .allocator .chunkSize = rw size (mod-lt z (st .size)) in
-            (r, row-inside-found (shown l) st n (z / shown l .allocator .chunkSize) d its-row, omega arith)
-
-        pub tail-cleared : {m : List ℕ} → m ≡ laid (withBytes (over (shown l .bytes) (d .pointer + z % s) (zeros (shown l .allocator .chunkSize - z % s))) (shown l)) → m ≡ laid (tailZeroed n z (shown l))
-        tail-cleared h =
-            (rw size at h)
-            ∙ ap laid (sym (put-zeros n z (shown l) st d its-row) ∙ sym (write-here n z (zeros (shown l .allocator .chunkSize - z % shown l .allocator .chunkSize)) (z / shown l .allocator .chunkSize) (shown l) d its-row)
-            ∙ tail-odd n z (shown l) odd-size)
-
-    module _ (enough : tailNeeds n z (shown l) ≤ room (shown l)) (e : b ≡ false) where
-      no-row : chunk n (z / s) (shown l .chunks) ≡ none
-      no-row = row-no n (z / s) (shown l .chunks) (st .order) place (sym test ∙ e) .0
-
-      one-room : 1 ≤ room (shown l)
-      one-room = omega (arith, tail-missing n z (shown l) size (st .order) odd place test e, enough)
-
-      pub take-asked : Ready l y × Stored (shown l) × (p ≡ lead (chunkUnder n (z / s)) (shown l .chunks)) × (chunk n (z / s) (shown l .chunks) ≡ none) × (1 ≤ room (shown l)) × (0 + 0 ≤ shown l .allocator .chunkSize)
-      take-asked = (r, st, place, no-row, one-room, omega arith)
-
-      pub tail-taken : {m : List ℕ} → m ≡ laid (withBytes (over (taken n (z / s) (shown l) .bytes) (allocate (shown l .allocator) .pointer + 0) []) (taken n (z / s) (shown l))) → m ≡ laid (tailZeroed n z (shown l))
-      tail-taken h =
-          let k = z / shown l .allocator .chunkSize in
-          let gone : chunk n k (shown l .chunks) ≡ none = rw (← size) no-row in
-          let q = rw size at h in
-          q ∙ ap (λ (x : List ℕ). laid (withBytes x (taken n k (shown l)))) (over-nil (taken n k (shown l) .bytes) (allocate (shown l .allocator) .pointer + 0))
-          ∙ ap laid (sym (put-taken n z (shown l) st one-room gone) ∙ sym (write-hole n z (zeros (shown l .allocator .chunkSize - z % shown l .allocator .chunkSize)) k (shown l) gone)
-          ∙ tail-odd n z (shown l) odd-size)
+use Rattle.chunks.proofs.ShrunkBytes.{tailNeeds, shrink-enough, shrunk-fits, shrunk-nodes, shrunk-rooms}
 
 -- ---- the cut, then the zeros
 
@@ -271,13 +65,13 @@ module _ (l : List ℕ) (y : Layout) (r : Ready l y) (g : Good (shown l)) (n z :
     fits = shrunk-fits n z (shown l) st free (r .formed .fits) number (omega arith)
 
     pub shown-shrunk : shown m ≡ shrunk n z (shown l)
-    shown-shrunk = ap shown e ∙ shown-laid (shrunk n z (shown l)) fits
+    shown-shrunk = shown-as (shrunk n z (shown l)) fits e
 
     pub ready-shrunk : Ready m y
-    ready-shrunk = rw (e, r .layout) (rw same at (ready-laid (shrunk n z (shown l)) fits))
-      where
-        same : layoutAt (shrunk n z (shown l)) ≡ layoutAt (shown l)
-        same = let k = shrunk-rooms n z (shown l) in rw (k .0, k .1, k .2)
+    ready-shrunk =
+        let k = shrunk-rooms n z (shown l) in
+        let same : layoutAt (shrunk n z (shown l)) ≡ layoutAt (shown l) = rw (k .0, k .1, k .2) in
+        ready-as (shrunk n z (shown l)) fits e (r .layout ∙ sym same)
 
 -- ---- the ends of the call
 
@@ -293,8 +87,8 @@ module _ (n z : ℕ) (l : List ℕ) (y : Layout) (ready : Ready l y) (g : Good (
     its : File n (shown l) i d
     its = file-found n (shown l) k h q
 
-    fits-row : NodeFits d
-    fits-row = row-fits n (shown l) k h q (ready .formed .fits)
+    row-fits : NodeFits d
+    row-fits = node-each n (shown l) d (its .row) NodeFits (ready .formed .fits .nodeRows)
 
     module _ {x : ℕ} (p : x ≡ fileLimit (d .limit)) where
       pub resize-above : x < z → Meets (Refused FileTooLarge) l (resize n z (shown l))
@@ -303,16 +97,12 @@ module _ (n z : ℕ) (l : List ℕ) (y : Layout) (ready : Ready l y) (g : Good (
 
       module _ (s : z ≤ x) where
         pub resize-most : z ≤ 1099511627776
-        resize-most = omega (arith, limit-most (d .limit) (fits-row .limit))
-
-        -- the row with the size set, in a volume with the nodes of this one
-        sized-set : (v : Volume) → v .nodes ≡ shown l .nodes → (m : List ℕ) {o : List ℕ} → shown m ≡ v → o ≡ laid (withNodes (set (shown m .nodes) i (sized z (nodeAt (shown m .nodes) i))) (shown m)) → o ≡ laid (withNode n (sized z) v)
-        sized-set v same m e f = f ∙ rw (e, same) (ap (λ ns. laid (withNodes ns v)) (sym (changed-set n (sized z) (shown l .nodes) i (g .nodeOrder) (its .found))))
+        resize-most = omega (arith, limit-most (d .limit) (row-fits .limit))
 
         pub resize-grown : d .size ≤ z → {o : List ℕ} → o ≡ laid (withNodes (set (shown l .nodes) i (sized z (nodeAt (shown l .nodes) i))) (shown l)) → Meets (Done 0) o (resize n z (shown l))
         unfolding resize resizeFor
         resize-grown e {o} f =
-            meets (becomes 0 (withNode (d .node) (sized z) (shown l))) _ (rw (its .number) (sized-set (shown l) refl l refl f))
+            meets (becomes 0 (withNode (d .node) (sized z) (shown l))) _ (rw (its .number) (row-set n (sized z) (shown l .nodes) i (g .nodeOrder) (its .found) (shown l) refl l refl f))
             (rw (its .row) (pick-false _ _ _ _ (its .file) (pick-false _ _ _ _ (rw (← p) (le-ltb _ _ s)) (pick-false _ _ _ _ (le-ltb _ _ e) refl))))
 
         module _ (e : z < d .size) {c : Bool} (full : c ≡ cramped n z (shown l)) where
@@ -330,7 +120,7 @@ module _ (n z : ℕ) (l : List ℕ) (y : Layout) (ready : Ready l y) (g : Good (
             shrink-asked = (ready, g, resize-most, sym full ∙ f)
 
             node-small : n < 2 ^ 64
-            node-small = rw (its .number) at (fits-row .node)
+            node-small = rw (its .number) at (row-fits .node)
 
             module _ {m : List ℕ} (less : m ≡ laid (shrunk n z (shown l))) where
               now-shown : shown m ≡ shrunk n z (shown l)
@@ -342,5 +132,5 @@ module _ (n z : ℕ) (l : List ℕ) (y : Layout) (ready : Ready l y) (g : Good (
               pub resize-shrunk : {o : List ℕ} → o ≡ laid (withNodes (set (shown m .nodes) i (sized z (nodeAt (shown m .nodes) i))) (shown m)) → Meets (Done 0) o (resize n z (shown l))
               unfolding resize resizeFor
               resize-shrunk {o} a =
-                  meets (becomes 0 (withNode (d .node) (sized z) (shrunk (d .node) z (shown l)))) _ (rw (its .number) (sized-set (shrunk n z (shown l)) (shrunk-nodes n z (shown l)) m now-shown a))
+                  meets (becomes 0 (withNode (d .node) (sized z) (shrunk (d .node) z (shown l)))) _ (rw (its .number) (row-set n (sized z) (shown l .nodes) i (g .nodeOrder) (its .found) (shrunk n z (shown l)) (shrunk-nodes n z (shown l)) m now-shown a))
                   (rw (its .row) (pick-false _ _ _ _ (its .file) (pick-false _ _ _ _ (rw (← p) (le-ltb _ _ s)) (pick-true _ _ _ _ (lt-ltb _ _ e) (pick-false _ _ _ _ (full-row ∙ f) refl)))))

@@ -13,10 +13,11 @@ use native.Mathlib.Omega.{arith}
 use lib.ListN.{length, getD}
 use Rattle.words.specs.Bytes.{over}
 use Rattle.words.specs.Table.{Each, Asc}
-use Rattle.words.proofs.Rules.{says-true, true-says}
+use Rattle.words.proofs.Rules.{says-true, true-says, false-says}
 use Rattle.words.proofs.Order.{asc-map}
 use Rattle.words.proofs.Numbers.{getD-over-before, getD-over-after}
 use Rattle.words.proofs.Multiples.{gap, chunk-of}
+use Rattle.words.proofs.FoundRows.{found-passes, found-each, each-found, count-found, count-two}
 use Rattle.allocator.specs.Pointers.{Accounted}
 use Rattle.allocator.proofs.Accounts.{Due, due-most, live-once}
 use Rattle.volume.specs.declared.ChunkRow.{ChunkRow}
@@ -25,8 +26,7 @@ use Rattle.volume.specs.Sound.{chunkBefore}
 use Rattle.tables.specs.Tables.{isChunk}
 use Rattle.chunks.specs.Content.{chunk, byteAt}
 use Rattle.chunks.proofs.Content.{byte-within}
-use Rattle.chunks.proofs.Cursor.{says-chunk, false-says}
-use Rattle.chunks.proofs.FoundRows.{found-passes, found-each, each-found, count-found, count-two}
+use Rattle.chunks.proofs.Cursor.{says-chunk}
 use Rattle.chunks.specs.Stored.{Stored}
 
 -- the pointers of a volume's rows

@@ -6,18 +6,17 @@ use mathlib.Core.Logic.{inl, inr}
 use mathlib.Core.List.{List, [], _∷_, _++_}
 use Prim.Native.Nat.{ℕ, _+_, _-_, _≤_, _<_}
 use native.Mathlib.Nat.{zero-add, suc-add}
-use native.Mathlib.Numerals.{add-one, one-add}
 use native.Mathlib.Omega.{arith}
 use native.Mathlib.Decide.{decLt}
 use lib.Dec.{eqb}
-use lib.ListN.{length, take, drop, getD, length-drop, drop-of-length-le}
-use lib.Seq.{drop-cons, length-take-le}
+use lib.ListN.{length, take, drop, length-drop, drop-of-length-le}
+use lib.Seq.{length-take-le}
 use borrow.Author.Tests.{eq-eqb, ne-eqb, eqb-false}
 use Rattle.words.specs.Rule.{pick}
 use Rattle.words.specs.Table.{lead, leadOf, Each, Asc, Falls}
 use Rattle.words.proofs.Rules.{Says, holds, fails, says-true, true-says, says-eqb}
 use Rattle.words.proofs.Order.{each-map, asc-map}
-use Rattle.words.proofs.Search.{lead-le, asc-falls}
+use Rattle.words.proofs.Search.{lead-le, asc-falls, from-more, from-stop}
 use Rattle.volume.specs.declared.ChunkRow.{ChunkRow}
 use Rattle.volume.specs.Rows.{readChunk}
 use Rattle.volume.specs.Search.{chunkUnder}
@@ -132,15 +131,6 @@ module _ (n c : ℕ) where
 
 -- ---- a walk along the rows of a file
 
-module _ {R : Type 0} (f : R → Bool) (d : R) (rs : List R) (i : ℕ) (h : i < length rs) where
-  lead-more : f (getD rs i d) ≡ true → lead f (drop i rs) ≡ 1 + lead f (drop (i + 1) rs)
-  unfolding lead leadOf
-  lead-more e = rw (drop-cons rs i d h, e, add-one, one-add)
-
-  lead-stop : f (getD rs i d) ≡ false → lead f (drop i rs) ≡ 0
-  unfolding lead leadOf
-  lead-stop e = rw (drop-cons rs i d h, e)
-
 -- from row first on; t is how many there are in all, i the row that the walk has come to
 module _ (n : ℕ) (cs : List ChunkRow) (first : ℕ) where
   pub walk-start : lead (ofNode n) (drop first cs) ≡ first - first + lead (ofNode n) (drop first cs)
@@ -148,10 +138,10 @@ module _ (n : ℕ) (cs : List ChunkRow) (first : ℕ) where
 
   module _ (i : ℕ) {t : ℕ} (so-far : t ≡ i - first + lead (ofNode n) (drop i cs)) (l : first ≤ i) where
     pub walk-turn : {r : ChunkRow} → i < length cs → r ≡ chunkAt cs i → r .node ≡ n → t ≡ i + 1 - first + lead (ofNode n) (drop (i + 1) cs)
-    walk-turn h q e = omega (arith, lead-more (ofNode n) (readChunk []) cs i h (eq-eqb _ _ (ap (λ (z : ChunkRow). z .node) (sym q) ∙ e)))
+    walk-turn h q e = omega (arith, from-more (ofNode n) (readChunk []) cs i h (eq-eqb _ _ (ap (λ (z : ChunkRow). z .node) (sym q) ∙ e)))
 
     pub walk-stop : {r : ChunkRow} → i < length cs → r ≡ chunkAt cs i → (r .node ≡ n → ⊥) → i - first ≡ t
-    walk-stop h q e = omega (arith, lead-stop (ofNode n) (readChunk []) cs i h (ne-eqb _ _ (λ z. e (ap (λ (x : ChunkRow). x .node) q ∙ z))))
+    walk-stop h q e = omega (arith, from-stop (ofNode n) (readChunk []) cs i h (ne-eqb _ _ (λ z. e (ap (λ (x : ChunkRow). x .node) q ∙ z))))
 
     pub walk-end : length cs ≤ i → i - first ≡ t
     walk-end h = omega (arith, none-left)

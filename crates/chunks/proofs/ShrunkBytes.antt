@@ -4,7 +4,7 @@
 use mathlib.Core.Path.{_≡_, refl, sym, ap, _∙_}
 use mathlib.Core.Bool.{Bool, true, false}
 use mathlib.Core.List.{List}
-use mathlib.Core.Option.{Option, none, some, Option·none-ne-some}
+use mathlib.Core.Option.{some, Option·none-ne-some}
 use Prim.Native.Nat.{ℕ, _-_, _*_, _/_, _%_, _^_, _≤_, _<_}
 use native.Mathlib.Nat.{mod-lt, div-le-self, mul-le-mul-right, le-div-iff-mul-le}
 use native.Mathlib.Decide.{decLt}
@@ -28,6 +28,7 @@ use Rattle.chunks.specs.Resize.{cramped, tailZeroed, shrunk}
 use Rattle.chunks.specs.Stored.{Stored}
 use Rattle.chunks.proofs.Cut.{cut-none, cut-room, cut-stored, cut-fits, cut-size, cut-other, cut-high, byte-other, byte-low, byte-high}
 use Rattle.chunks.proofs.KeptFields.{Kept, kept-same, kept-writeChunk}
+use Rattle.chunks.proofs.HoleCount.{hole-most}
 use Rattle.chunks.proofs.PutPiece.{Touched, other-node, before, higher}
 use Rattle.chunks.proofs.WrittenChunks.{writeChunk-stored, writeChunk-in, writeChunk-away, writeChunk-other, fits-writeChunk}
 
@@ -167,17 +168,13 @@ module _ (n z : ℕ) (v : Volume) where
     unfolding cramped both pick
     shrink-enough = go (eqb (length (only (goes n c) (v .chunks))) 0) (says-eqb (length (only (goes n c) (v .chunks))) 0) free
       where
-        one : (o : Option ChunkRow) → hole o ≤ 1
-        one none = omega arith
-        one (some d) = omega arith
-
         at-most : (b : Bool) (k : ℕ) → k ≤ 1 → pick b 0 k ≤ 1
         at-most true k h = omega arith
         at-most false k h = h
 
         go : (b : Bool) → Says (length (only (goes n c) (v .chunks)) ≡ 0) b → both b (ltb (room v) (tailNeeds n z v)) ≡ false → tailNeeds n z w ≤ room w
         go true (holds e) h = rw (cut-none n c v e) (omega (arith, ltb-false (room v) (tailNeeds n z v) h))
-        go false (fails e) h = omega (arith, at-most (eqb (z % w .allocator .chunkSize) 0) (hole (chunk n (z / w .allocator .chunkSize) (w .chunks))) (one (chunk n (z / w .allocator .chunkSize) (w .chunks))), cut-room n c v st (omega arith))
+        go false (fails e) h = omega (arith, at-most (eqb (z % w .allocator .chunkSize) 0) (hole (chunk n (z / w .allocator .chunkSize) (w .chunks))) (hole-most (chunk n (z / w .allocator .chunkSize) (w .chunks))), cut-room n c v st (omega arith))
 
     pub shrunk-stored : Stored (shrunk n z v)
     unfolding shrunk

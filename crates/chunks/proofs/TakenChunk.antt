@@ -6,7 +6,7 @@ use mathlib.Core.Bool.{Bool, true, false}
 use mathlib.Core.Logic.{inl, inr}
 use mathlib.Core.List.{List, _∷_, map}
 use mathlib.Core.Option.{Option, none, some}
-use Prim.Native.Nat.{ℕ, suc, _+_, _-_, _/_, _%_, _≤_, _<_}
+use Prim.Native.Nat.{ℕ, suc, _+_, _/_, _%_, _≤_, _<_}
 use native.Mathlib.Nat.{mod-lt}
 use native.Mathlib.Decide.{decLt}
 use native.Mathlib.Omega.{arith}
@@ -14,16 +14,19 @@ use lib.ListN.{length, getD, getD-replicate, length-map}
 use Rattle.words.specs.Bytes.{zeros}
 use Rattle.words.specs.Rule.{count}
 use Rattle.words.specs.Table.{Asc, lead, insertAt}
-use Rattle.words.proofs.Rules.{Says, holds, fails, says-true, true-says}
+use Rattle.words.proofs.Rules.{Says, holds, fails, says-true, true-says, false-says, says-false}
 use Rattle.words.proofs.Order.{insert-asc, each-map}
 use Rattle.words.proofs.Parts.{length-over, length-zeros}
 use Rattle.words.proofs.Tables.{length-insertAt}
 use Rattle.words.proofs.Search.{lead-le}
 use Rattle.words.proofs.Counting.{count-cons, bit-same}
 use Rattle.words.proofs.Multiples.{gap}
+use Rattle.words.proofs.FoundRows.{none-passes, find-insert-other, find-insert-here, count-insert, count-found}
+use Rattle.words.proofs.Written.{over-at}
 use Rattle.allocator.specs.Allocator.{Allocator, free, allocate}
 use Rattle.allocator.specs.Pointers.{Accounted, due}
 use Rattle.allocator.proofs.Accounts.{Due, allocate-accounts, allocate-lined, live-once}
+use Rattle.allocator.proofs.Allocated.{Rest, allocate-rest, allocate-count, allocate-inside, allocate-left, allocate-enough, left}
 use Rattle.volume.specs.declared.ChunkRow.{ChunkRow}
 use Rattle.volume.specs.Volume.{Volume}
 use Rattle.volume.specs.Search.{chunkUnder}
@@ -32,9 +35,7 @@ use Rattle.tables.specs.Tables.{isChunk}
 use Rattle.tables.proofs.Finds.{PairBefore, pair-trans}
 use Rattle.chunks.specs.Content.{chunk, byteIn, byteAt}
 use Rattle.chunks.specs.Store.{room, taken}
-use Rattle.chunks.proofs.Cursor.{says-chunk, says-under, false-says, says-false}
-use Rattle.chunks.proofs.FoundRows.{none-passes, find-insert-other, find-insert-here, count-insert, count-found, over-at}
-use Rattle.chunks.proofs.Allocated.{Rest, allocate-rest, allocate-count, allocate-inside, allocate-left, allocate-enough, left}
+use Rattle.chunks.proofs.Cursor.{says-chunk, says-under}
 use Rattle.chunks.specs.Stored.{Stored}
 use Rattle.chunks.proofs.RowPlaces.{live, Other, Far, lined-far, elsewhere, stored-accounted, row-due-found, row-inside-found}
 
@@ -81,7 +82,7 @@ module _ (v : Volume) (st : Stored v) (some-room : 1 ≤ room v) where
   unfolding room
   some-left = omega (arith, some-room)
 
-  rows-fewer : length (v .chunks) < v .chunkRoom
+  pub rows-fewer : length (v .chunks) < v .chunkRoom
   unfolding room
   rows-fewer = omega (arith, some-room)
 

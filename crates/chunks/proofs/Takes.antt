@@ -7,36 +7,27 @@ use Prim.Native.Nat.{ℕ, _+_, _-_, _^_, _≤_, _<_}
 use native.Mathlib.Nat.{mul-le-mul}
 use native.Mathlib.Omega.{arith}
 use lib.ListN.{length, take, drop}
-use Rattle.words.specs.Bytes.{part, over, zeros}
+use Rattle.words.specs.Bytes.{over, zeros}
 use Rattle.words.specs.Table.{lead, insertAt}
 use Rattle.words.proofs.Parts.{length-zeros, length-over}
 use Rattle.words.proofs.Search.{lead-le}
+use Rattle.words.proofs.Written.{over-within, length-lent}
 use Rattle.allocator.specs.Allocator.{allocate}
 use Rattle.allocator.proofs.Sized.{accepted-bounds}
+use Rattle.allocator.proofs.Allocated.{allocate-rest}
 use Rattle.volume.specs.declared.Layout.{Layout}
 use Rattle.volume.specs.Search.{chunkUnder}
 use Rattle.volume.specs.Volume.{Volume, shown, laid, withAllocator, withChunks, withBytes}
 use Rattle.volume.specs.Framed.{Fits}
-use Rattle.volume.proofs.Laid.{shown-laid}
 use Rattle.volume.proofs.Frames.{fits-chunks, fits-bytes}
-use Rattle.tables.specs.Tables.{Ready, layoutAt}
-use Rattle.tables.proofs.Rooms.{ready-laid}
+use Rattle.tables.specs.Tables.{Ready}
+use Rattle.tables.proofs.Rooms.{shown-as, ready-as}
 use Rattle.chunks.specs.Content.{chunk}
 use Rattle.chunks.specs.Store.{room, taken}
 use Rattle.chunks.specs.Stored.{Stored}
-use Rattle.chunks.proofs.Allocated.{allocate-rest}
-use Rattle.chunks.proofs.Fills.{over-within}
 use Rattle.chunks.proofs.KeptFields.{fits-taken}
-use Rattle.chunks.proofs.Pieces.{length-lent}
 use Rattle.chunks.proofs.Puts.{chunk-ends, chunk-put}
-use Rattle.chunks.proofs.TakenChunk.{given-inside}
-
--- bytes that are a volume laid out, with the geometry of another
-pub ready-as : (w : Volume) → Fits w → {l : List ℕ} {y : Layout} → l ≡ laid w → y ≡ layoutAt w → Ready l y
-ready-as w f e h = rw (e, h) (ready-laid w f)
-
-pub shown-as : (w : Volume) → Fits w → {l : List ℕ} → l ≡ laid w → shown l ≡ w
-shown-as w f e = ap shown e ∙ shown-laid w f
+use Rattle.chunks.proofs.TakenChunk.{given-inside, rows-fewer}
 
 -- what `allocate` asks: the next new pointer is no great number
 pub pointer-fits : (v : Volume) → Fits v → Stored v → v .allocator .nextPtr + v .allocator .chunkSize < 18446744073709551616
@@ -62,23 +53,19 @@ module _ (l : List ℕ) (y : Layout) (r : Ready l y) (st : Stored (shown l)) (n 
   all-fits : Fits (taken n k v)
   all-fits = fits-taken v (r .formed .fits) st n k node index some-room hole
 
-  rows-fewer : length (v .chunks) < v .chunkRoom
-  unfolding room
-  rows-fewer = omega (arith, some-room)
-
   module _ {row p : ℕ} {m : List ℕ} (place : row ≡ lead (chunkUnder n k) (v .chunks)) (got : (p ≡ allocate (v .allocator) .pointer) × (m ≡ laid v₁)) where
     fits₂ : Fits (v₂ row p)
     unfolding taken
     fits₂ = rw (place, got .0) (fits-bytes (taken n k v) all-fits (v .bytes) (sym (length-over (v .bytes) (allocate (v .allocator) .pointer) (zeros S) (omega (arith, given-inside v st some-room, length-zeros S)))))
 
     fits₁ : Fits v₁
-    fits₁ = fits-chunks (v₂ row p) fits₂ (v .chunks) (omega (arith, rows-fewer)) (r .formed .fits .chunkRows)
+    fits₁ = fits-chunks (v₂ row p) fits₂ (v .chunks) (omega (arith, rows-fewer v st some-room)) (r .formed .fits .chunkRows)
 
     -- what `insert_chunk` asks
     pub row-asked : Ready m y × (row ≤ length (shown m .chunks)) × (length (shown m .chunks) < shown m .chunkRoom)
     row-asked =
         let s = shown-as v₁ fits₁ (got .1) in
-        (ready-as v₁ fits₁ (got .1) (r .layout), rw (s, place) (lead-le (chunkUnder n k) (v .chunks)), rw s rows-fewer)
+        (ready-as v₁ fits₁ (got .1) (r .layout), rw (s, place) (lead-le (chunkUnder n k) (v .chunks)), rw s (rows-fewer v st some-room))
 
     module _ {o : List ℕ} (in-place : o ≡ laid (withChunks (insertAt row (record { node = n; index = k; pointer = p }) (shown m .chunks)) (shown m))) {s : ℕ} (size : (s ≡ S) × (0 < s) × (s ≤ 65536)) where
       laid₂ : o ≡ laid (v₂ row p)

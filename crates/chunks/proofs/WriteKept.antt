@@ -2,7 +2,7 @@
 -- file has the bytes written and the greater of its size and their end, and all else is as before.
 -- Assumes nothing.
 use mathlib.Core.Path.{_≡_, refl, sym, ap, _∙_}
-use mathlib.Core.Bool.{Bool, true, false, false≢true}
+use mathlib.Core.Bool.{Bool, true, false}
 use mathlib.Core.List.{List}
 use mathlib.Core.Option.{Option, none, some}
 use Prim.Native.Nat.{ℕ, _+_, _-_, _*_, _^_, _≤_, _<_, max}
@@ -12,12 +12,13 @@ use lib.ListN.{length, getD}
 use Rattle.words.specs.Rule.{pick}
 use Rattle.words.proofs.Rules.{Says, holds, fails, says-eqb, says-ltb}
 use Rattle.types.specs.Nodes.{kindByte, fileLimit}
-use Rattle.types.specs.Answers.{number, value}
+use Rattle.types.specs.Answers.{value}
 use Rattle.types.specs.declared.Answer.the-variants.{Done, Refused}
 use Rattle.types.specs.declared.Error.{Error}
 use Rattle.types.specs.declared.Error.the-variants.{NoSuchEntry, IsDirectory, FileTooLarge, NoChunkRoom}
 use Rattle.types.specs.declared.FileType.the-variants.{Directory}
 use Rattle.types.specs.declared.NodeRecord.{NodeRecord}
+use Rattle.types.proofs.Bytes.{limit-most}
 use Rattle.volume.specs.declared.ChunkRow.{ChunkRow}
 use Rattle.volume.specs.Volume.{Volume}
 use Rattle.volume.specs.Framed.{NodeFits, Fits}
@@ -30,9 +31,7 @@ use Rattle.chunks.specs.Store.{room}
 use Rattle.chunks.specs.Write.{holes, written, writeFor, write}
 use Rattle.chunks.specs.Stored.{Stored}
 use Rattle.chunks.proofs.Stored.{good-stored}
-use Rattle.chunks.proofs.FoundRows.{found-each}
-use Rattle.chunks.proofs.Changed.{node-is}
-use Rattle.chunks.proofs.Changing.{limit-most}
+use Rattle.chunks.proofs.NodeRows.{node-is, node-each, no-directory}
 use Rattle.chunks.proofs.KeptFields.{Kept, kept-written}
 use Rattle.chunks.proofs.WrittenBytes.{written-stored, fits-written, written-in, written-away, written-beside, written-new}
 use Rattle.chunks.proofs.OwnedContent.{Reached, zero-above, owned-reached}
@@ -70,9 +69,8 @@ write-cases P n offset bs v refusal empty accepted = from-row (node n v) refl
     from-file r e false k false (fails p) false (fails q) true s = refusal NoChunkRoom
     from-file r e false k false (fails p) false (fails q) false (fails s) =
         let i : r .node ≡ n = node-is n v r e in
-        let file : r .kind ≡ Directory → ⊥ = λ z. false≢true (sym k ∙ ap (λ t. eqb (kindByte t) 0) z) in
         let enough : room v < holes n offset (length bs) v → ⊥ = rw i at s in
-        rw i (accepted r (record { there = e; file = file; some-bytes = omega arith; within = omega arith; enough = omega arith }))
+        rw i (accepted r (record { there = e; file = no-directory (r .kind) k; some-bytes = omega arith; within = omega arith; enough = omega arith }))
 
     from-row : (o : Option NodeRecord) → node n v ≡ o → P (writeFor offset bs v o)
     from-row none e = refusal NoSuchEntry
@@ -112,12 +110,10 @@ module _ (n offset : ℕ) (bs : List ℕ) (v : Volume) (f : Fits v) (g : Good v)
   kept = kept-written n offset bs v
 
   row-good : NodeGood (v .entries) r
-  unfolding node
-  row-good = found-each (λ s. eqb (s .node) n) (NodeGood (v .entries)) (v .nodes) r (g .nodes) (a .there)
+  row-good = node-each n v r (a .there) (NodeGood (v .entries)) (g .nodes)
 
   row-fits : NodeFits r
-  unfolding node
-  row-fits = found-each (λ s. eqb (s .node) n) NodeFits (v .nodes) r (f .nodeRows) (a .there)
+  row-fits = node-each n v r (a .there) NodeFits (f .nodeRows)
 
   end-most : offset + length bs ≤ 2 ^ 64
   end-most = omega (arith, limit-most (r .limit) (row-fits .limit), a .within)

@@ -1,6 +1,6 @@
 -- What a write does: its refusals, which leave the volume as it was, its chunks written, and the size that it sets.
 -- Assumes nothing.
-use mathlib.Core.Path.{_≡_, refl, sym, ap, _∙_}
+use mathlib.Core.Path.{_≡_, refl, sym, _∙_}
 use mathlib.Core.Bool.{Bool, true, false}
 use mathlib.Core.List.{List}
 use Prim.Native.Nat.{ℕ, _+_, max, _≤_, _<_}
@@ -14,25 +14,26 @@ use Rattle.types.specs.declared.Answer.the-variants.{Done, Refused}
 use Rattle.types.specs.declared.Error.{Error}
 use Rattle.types.specs.declared.Error.the-variants.{FileTooLarge, NoChunkRoom}
 use Rattle.types.specs.declared.NodeRecord.{NodeRecord}
+use Rattle.types.proofs.Bytes.{limit-most}
 use Rattle.volume.specs.declared.Layout.{Layout}
 use Rattle.volume.specs.Framed.{NodeFits, Fits}
 use Rattle.volume.specs.Volume.{Volume, shown, laid, withNodes}
 use Rattle.volume.specs.Sound.{Good}
 use Rattle.volume.specs.Steps.{stays, becomes, withNode}
-use Rattle.tables.specs.Tables.{Ready, nodeAt, layoutAt, sized}
+use Rattle.tables.specs.Tables.{Ready, nodeAt, sized}
 use Rattle.chunks.specs.declared.files.FileRow.{FileRow}
 use Rattle.chunks.specs.declared.files.FileRow.the-variants as row
 use Rattle.chunks.specs.Files.{fileFound}
+use Rattle.tables.proofs.Rooms.{shown-as, ready-as}
 use Rattle.chunks.specs.Store.{room}
 use Rattle.chunks.specs.Stored.{Stored}
 use Rattle.chunks.specs.Write.{holes, written, writeFor, write}
 use Rattle.chunks.proofs.Stored.{good-stored}
-use Rattle.chunks.proofs.Changed.{changed-set}
-use Rattle.chunks.proofs.Changing.{limit-most}
-use Rattle.chunks.proofs.FoundFile.{File, file-found, row-fits, file-refused}
-use Rattle.chunks.proofs.KeptFields.{kept-written}
+use Rattle.chunks.proofs.FoundFile.{File, file-found, file-refused}
+use Rattle.chunks.proofs.NodeRows.{node-each}
+use Rattle.chunks.proofs.Changed.{row-set}
+use Rattle.chunks.proofs.KeptFields.{kept-layout, kept-written}
 use Rattle.chunks.proofs.Limited.{Meets, meets}
-use Rattle.chunks.proofs.Takes.{ready-as, shown-as}
 use Rattle.chunks.proofs.WrittenBytes.{fits-written}
 
 module _ (n offset : ℕ) (bs : List ℕ) (l : List ℕ) (y : Layout) (ready : Ready l y) (g : Good (shown l)) where
@@ -54,8 +55,8 @@ module _ (n offset : ℕ) (bs : List ℕ) (l : List ℕ) (y : Layout) (ready : R
     its : File n v i d
     its = file-found n v k h q
 
-    fits-row : NodeFits d
-    fits-row = row-fits n v k h q (ready .formed .fits)
+    row-fits : NodeFits d
+    row-fits = node-each n v d (its .row) NodeFits (ready .formed .fits .nodeRows)
 
     -- no bytes
     pub write-none : length bs ≡ 0 → Meets (Done 0) l (write n offset bs v)
@@ -74,7 +75,7 @@ module _ (n offset : ℕ) (bs : List ℕ) (l : List ℕ) (y : Layout) (ready : R
       module _ (s : c ≡ false) where
         -- what `is_cramped` asks
         pub room-asked : Ready l y × Stored v × (0 < length bs) × (offset + length bs ≤ 1099511627776)
-        room-asked = (ready, st, omega arith, omega (arith, ltb-false (fileLimit (d .limit)) (offset + length bs) (sym above ∙ s), limit-most (d .limit) (fits-row .limit)))
+        room-asked = (ready, st, omega arith, omega (arith, ltb-false (fileLimit (d .limit)) (offset + length bs) (sym above ∙ s), limit-most (d .limit) (row-fits .limit)))
 
         module _ {a : Bool} (m : a ≡ ltb (room v) (holes n offset (length bs) v)) where
           -- 6
@@ -95,7 +96,7 @@ module _ (n offset : ℕ) (bs : List ℕ) (l : List ℕ) (y : Layout) (ready : R
             -- behind it
             module _ {j : List ℕ} (e : j ≡ laid (written n offset bs v)) where
               fits : Fits (written n offset bs v)
-              fits = fits-written v st n offset bs (room-asked .2) enough (ready .formed .fits) (rw (its .number) at (fits-row .node)) (omega (arith, room-asked .3))
+              fits = fits-written v st n offset bs (room-asked .2) enough (ready .formed .fits) (rw (its .number) at (row-fits .node)) (omega (arith, room-asked .3))
 
               shown-written : shown j ≡ written n offset bs v
               shown-written = shown-as (written n offset bs v) fits e
@@ -106,15 +107,12 @@ module _ (n offset : ℕ) (bs : List ℕ) (l : List ℕ) (y : Layout) (ready : R
               -- what `set_size` asks
               pub size-asked : Ready j y × (i < length (shown j .nodes))
               size-asked =
-                  let p = kept-written n offset bs v in
-                  let f : layoutAt (written n offset bs v) ≡ layoutAt v = rw (p .nodeRoom, p .entryRoom, p .chunkRoom) in
-                  (ready-as (written n offset bs v) fits e (ready .layout ∙ sym f), rw (shown-written, nodes-stay) (its .place))
+                  (ready-as (written n offset bs v) fits e (ready .layout ∙ sym (kept-layout (kept-written n offset bs v))), rw (shown-written, nodes-stay) (its .place))
 
               pub write-done : {size : ℕ} → size ≡ max (d .size) (offset + length bs) → {f : List ℕ} → f ≡ laid (withNodes (set (shown j .nodes) i (sized size (nodeAt (shown j .nodes) i))) (shown j)) → Meets (Done (length bs)) f (write n offset bs v)
               unfolding write writeFor
               write-done {size} es {f} ef =
                   let m₁ = max (d .size) (offset + length bs) in
-                  let c₁ = changed-set n (sized m₁) (v .nodes) i (g .nodeOrder) (its .found) in
-                  let x : f ≡ laid (withNode n (sized m₁) (written n offset bs v)) = ef ∙ rw (shown-written, nodes-stay, es) (ap (λ ns. laid (withNodes ns (written n offset bs v))) (sym c₁)) in
+                  let x : f ≡ laid (withNode n (sized m₁) (written n offset bs v)) = row-set n (sized m₁) (v .nodes) i (g .nodeOrder) (its .found) (written n offset bs v) nodes-stay j shown-written (rw es at ef) in
                   meets (becomes (length bs) (withNode n (sized m₁) (written n offset bs v))) _ x
                   (rw (its .row, its .number) (pick-false _ _ _ _ (its .file) (pick-false _ _ _ _ (ne-eqb _ _ bytes) (pick-false _ _ _ _ (sym above ∙ s) (pick-false _ _ _ _ (sym m ∙ z) refl)))))

@@ -25,11 +25,12 @@ use Rattle.volume.specs.declared.ChunkRow.{ChunkRow}
 use Rattle.volume.specs.Volume.{Volume, shown, laid, withAllocator}
 use Rattle.volume.specs.Steps.{Step}
 use Rattle.volume.specs.Framed.{Fits}
-use Rattle.volume.specs.Sound.{node, Good, Sound}
+use Rattle.volume.specs.Sound.{Good, Sound}
 use Rattle.volume.proofs.Laid.{shown-laid, framed-formed}
-use Rattle.volume.proofs.Frames.{framed-laid}
+use Rattle.volume.proofs.Frames.{framed-laid, fits-allocator}
 use Rattle.soundness.proofs.Checked.{true-sound}
 use Rattle.chunks.specs.Limits as Limits
+use Rattle.chunks.proofs.GoodParts.{good-named, named-good}
 use Rattle.chunks.proofs.Limited.{limit-kept}
 use Rattle.chunks.specs.Write as Write
 use Rattle.chunks.proofs.WriteKept.{write-kept}
@@ -64,47 +65,15 @@ module _ (s : ℕ) (v : Volume) where
   unfolding wordsOf Each
   size-fits f h =
       let b = accepted-bounds s h in
-      record {
-        placed = f .placed;
-        nextNode = f .nextNode;
-        nodes = f .nodes;
-        entries = f .entries;
-        chunks = f .chunks;
-        mark = f .mark;
-        twelve = f .twelve;
-        words = f .words;
-        small = (f .small .0, (omega arith, f .small .1 .1));
-        size = h;
-        free = f .free;
-        nodeRows = f .nodeRows;
-        entryRows = f .entryRows;
-        chunkRows = f .chunkRows;
-      }
+      fits-allocator v f (withSize s (v .allocator)) (f .mark) (record { twelve = f .twelve; small = (f .small .0, (omega arith, f .small .1 .1)) }) (f .words) h (f .free)
 
   size-good : Good v → v .allocator .nextPtr ≡ 0 → Good (withAllocator (withSize s (v .allocator)) v)
-  unfolding Each free node
+  unfolding Each free
   size-good g z =
       let h : (p : ℕ) → count p (map (λ c. c .pointer) (v .chunks)) + count p (free (v .allocator)) ≡ due (v .allocator .chunkSize) 0 p = λ p. g .pointers p ∙ ap (λ (k : ℕ). due (v .allocator .chunkSize) k p) z in
       let e : v .chunks ≡ [] = no-chunks (v .chunks) (free (v .allocator)) (v .allocator .chunkSize) h in
-      record {
-        nodeOrder = g .nodeOrder;
-        entryOrder = g .entryOrder;
-        chunkOrder = g .chunkOrder;
-        indexes = g .indexes;
-        fresh = g .fresh;
-        root = g .root;
-        unnamed = g .unnamed;
-        names = g .names;
-        parents = g .parents;
-        targets = g .targets;
-        once = g .once;
-        nodes = g .nodes;
-        owned = rw e tt;
-        lined = rw z (zero-mod s);
-        inside = omega (arith, z);
-        enough = omega (arith, z);
-        pointers = λ p. h p ∙ due-none (v .allocator .chunkSize) 0 p (omega arith) ∙ sym (rw z (due-none s 0 p (omega arith)));
-      }
+      named-good (withAllocator (withSize s (v .allocator)) v) (good-named v g) (g .chunkOrder) (rw e tt) (rw z (zero-mod s)) (omega (arith, z)) (omega (arith, z))
+      (λ p. h p ∙ due-none (v .allocator .chunkSize) 0 p (omega arith) ∙ sym (rw z (due-none s 0 p (omega arith))))
 
 -- what holds of the allocator as it was, and with another accepted size while word 3 is 0, holds of what the call leaves
 size-cases : (P : Allocator → Type 0) (s : ℕ) (a : Allocator) → P a → (acceptedSize s ≡ true → a .nextPtr ≡ 0 → P (withSize s a)) → P (Allocator.setChunkSize s a .after)

@@ -2,9 +2,9 @@
 -- Assumes nothing.
 use mathlib.Core.Path.{_≡_, refl, sym, ap, _∙_}
 use mathlib.Core.Bool.{Bool, true, false, not, false≢true}
-use mathlib.Core.Logic.{_⊎_, inl, inr, ⊎-elim}
+use mathlib.Core.Logic.{_⊎_, ⊎-elim}
 use mathlib.Core.List.{List, [], _∷_}
-use Prim.Native.Nat.{ℕ, zero, suc, _-_, _≤_, _<_}
+use Prim.Native.Nat.{ℕ, zero, suc, _≤_, _<_}
 use native.Mathlib.Nat.{not-suc-le-zero, le-of-suc-le-suc}
 use native.Mathlib.Omega.{arith}
 use lib.Dec.{eqb}
@@ -12,15 +12,16 @@ use borrow.Author.Tests.{eq-eqb}
 use lib.ListN.{length, getD}
 use lib.Seq.{take-length}
 use Rattle.words.specs.Bytes.{part}
-use Rattle.words.specs.Rule.{both, either, same}
-use Rattle.words.proofs.Rules.{Says, holds, fails, says-true, true-says, says-map, says-both, says-leb, says-not}
+use Rattle.words.specs.Rule.{both, same}
+use Rattle.words.proofs.Joined.{both-false, either-false, either-true}
+use Rattle.words.proofs.Rules.{Says, holds, fails, says-true, true-says, false-says, says-map, says-both, says-leb, says-not}
 use Rattle.words.proofs.Blocks.{says-same}
 use Rattle.types.specs.Sizes.{mostName}
 use Rattle.paths.specs.declared.Sort.{Sort}
 use Rattle.paths.specs.declared.Sort.the-variants.{Dropped, Upward, Name}
 use Rattle.paths.specs.Path.{slash, dot, dropped, upward, noSlash, nameAllowed}
 use Rattle.paths.specs.Pieces.{Pieced, sortOf}
-use Rattle.paths.proofs.Sorts.{Sorted, is-dropped, is-upward, is-name, sorted, never}
+use Rattle.paths.proofs.Sorts.{Sorted, is-dropped, is-upward, is-name, sorted}
 
 -- a name, but for its length
 pub record Part (p : List ℕ) : Type 0 where
@@ -45,16 +46,6 @@ says-name p = says-map
     (says-both (says-leb 1 (length p)) (says-both (says-leb (length p) mostName) (says-both (says-whole p) (says-both (says-not (says-same p (dot ∷ []))) (says-not (says-same p (dot ∷ dot ∷ [])))))))
 
 -- ---- pieces that are no names, and those that are
-
-either-false : (a b : Bool) → either a b ≡ false → (a ≡ false) × (b ≡ false)
-unfolding either
-either-false true b h = absurd (false≢true (sym h))
-either-false false b h = (refl, h)
-
-either-true : (a b : Bool) → either a b ≡ true → (a ≡ true) ⊎ (b ≡ true)
-unfolding either
-either-true true b h = inl refl
-either-true false b h = inr h
 
 some-bytes : (p : List ℕ) → same p [] ≡ false → 0 < length p
 unfolding same
@@ -87,16 +78,9 @@ slash-in : (p : List ℕ) (i : ℕ) → i < length p → getD p i 0 ≡ slash �
 unfolding noSlash both
 slash-in [] i h e = absurd (not-suc-le-zero h)
 slash-in (x ∷ p) zero h e = rw (eq-eqb x slash e)
-slash-in (x ∷ p) (suc i) h e = rw (slash-in p i (le-of-suc-le-suc h) e) (never (not (eqb x slash)))
+slash-in (x ∷ p) (suc i) h e = rw (slash-in p i (le-of-suc-le-suc h) e) (both-false (not (eqb x slash)))
 
 -- ---- what `name_allowed` finds
-
-yes-says : {P : Type 0} {b : Bool} → Says P b → P → true ≡ b
-yes-says s p = sym (true-says s p)
-
-no-says : {P : Type 0} {b : Bool} → Says P b → (P → ⊥) → false ≡ b
-no-says (holds p) h = absurd (h p)
-no-says (fails p) h = refl
 
 abbrev isName : Sort → Bool
 isName Dropped = false
@@ -105,15 +89,15 @@ isName Name = true
 
 module _ (n : List ℕ) where
   pub name-long : mostName < length n → false ≡ nameAllowed n
-  name-long h = no-says (says-name n) (λ q. omega arith)
+  name-long h = sym (false-says (says-name n) (λ q. omega arith))
 
   pub name-slash : {i : ℕ} → i < length n → getD n i 0 ≡ slash → false ≡ nameAllowed n
-  name-slash {i} h e = no-says (says-name n) (λ q. false≢true (sym (slash-in n i h e) ∙ q .0 .whole))
+  name-slash {i} h e = sym (false-says (says-name n) (λ q. false≢true (sym (slash-in n i h e) ∙ q .0 .whole)))
 
   name-sorted : {s : Sort} → length n ≤ mostName → noSlash n ≡ true → Sorted n s → isName s ≡ nameAllowed n
-  name-sorted h k (is-dropped d) = no-says (says-name n) (λ q. no-part-dropped n d (q .0))
-  name-sorted h k (is-upward d u) = no-says (says-name n) (λ q. no-part-upward n u (q .0))
-  name-sorted h k (is-name d u) = yes-says (says-name n) (named n k d u, h)
+  name-sorted h k (is-dropped d) = sym (false-says (says-name n) (λ q. no-part-dropped n d (q .0)))
+  name-sorted h k (is-upward d u) = sym (false-says (says-name n) (λ q. no-part-upward n u (q .0)))
+  name-sorted h k (is-name d u) = sym (true-says (says-name n) (named n k d u, h))
 
   -- a piece that is the whole name
   pub name-by-sort : (k dots : ℕ) {s : Sort} → length n ≤ mostName → Pieced n 0 k dots → k ≡ length n → s ≡ sortOf (length n) dots → isName s ≡ nameAllowed n

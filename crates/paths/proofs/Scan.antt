@@ -1,7 +1,7 @@
 -- Reading a piece byte by byte, and the pieces left of a path.
 -- Assumes nothing.
 use mathlib.Core.Path.{_≡_, refl, sym, ap, _∙_}
-use mathlib.Core.Bool.{Bool, true, false, not, false≢true}
+use mathlib.Core.Bool.{Bool, true, false, not}
 use mathlib.Core.List.{List, [], _∷_, _++_, append-nil}
 use Prim.Native.Nat.{ℕ, _+_, _-_, _≤_, _<_}
 use native.Mathlib.Nat.{add-assoc}
@@ -14,6 +14,7 @@ use lib.ListN.{length, drop, getD, drop-of-length-le}
 use lib.Seq.{drop-cons}
 use Rattle.words.specs.Bytes.{part}
 use Rattle.words.specs.Rule.{pick, both, bit, times, count}
+use Rattle.words.proofs.Joined.{both-true}
 use Rattle.words.proofs.Rules.{pick-true, pick-false}
 use Rattle.words.proofs.Parts.{part-snoc, part-none, cut-drop}
 use Rattle.paths.specs.Path.{slash, dot, cons, split, noSlash}
@@ -24,11 +25,6 @@ use Rattle.paths.specs.Pieces.{Pieced}
 pub no-first : (l : List ℕ) → length l ≤ 0 → false ≡ eqb (getD l 0 0) slash
 no-first [] h = refl
 no-first (x ∷ l) h = absurd (omega arith)
-
-both-true : (a b : Bool) → both a b ≡ true → (a ≡ true) × (b ≡ true)
-unfolding both
-both-true true b h = (refl, h)
-both-true false b h = absurd (false≢true h)
 
 no-slash-snoc : (a : List ℕ) (x : ℕ) → noSlash a ≡ true → eqb x slash ≡ false → noSlash (a ++ (x ∷ [])) ≡ true
 unfolding noSlash both

@@ -3,27 +3,18 @@
 use mathlib.Core.Path.{_≡_, refl, ap, _∙_}
 use mathlib.Core.Bool.{Bool, true, false}
 use mathlib.Core.List.{List, [], _∷_}
-use Prim.Native.Nat.{ℕ, zero, suc, _+_, _-_, _≤_, _<_}
+use Prim.Native.Nat.{ℕ, zero, suc, _+_, _≤_, _<_}
 use native.Mathlib.Omega.{arith}
 use lib.Dec.{eqb}
 use borrow.Author.Tests.{eq-eqb, ne-eqb, le-leb, lt-leb, eqb-true, eqb-false}
 use lib.ListN.{length}
 use Rattle.words.specs.Rule.{pick, both, either, bit, times, count, same}
+use Rattle.words.proofs.Joined.{both-false}
 use Rattle.words.proofs.Rules.{pick-true, pick-false}
 use Rattle.paths.specs.declared.Sort.{Sort}
 use Rattle.paths.specs.declared.Sort.the-variants.{Dropped, Upward, Name}
 use Rattle.paths.specs.Path.{dot, dropped, upward}
 use Rattle.paths.specs.Pieces.{sortOf}
-
--- ---- a byte
-
-pub bit-yes : {b n : ℕ} → b ≡ n → 1 ≡ bit (eqb b n)
-unfolding bit
-bit-yes {b} {n} e = rw (eq-eqb b n e)
-
-pub bit-no : {b n : ℕ} → (b ≡ n → ⊥) → 0 ≡ bit (eqb b n)
-unfolding bit
-bit-no {b} {n} h = rw (ne-eqb b n h)
 
 -- ---- the sort that a length and dots mean
 
@@ -69,17 +60,12 @@ sorted-two x y true false e f = is-name (rw e) (rw (e, f))
 sorted-two x y false true e f = is-name (rw e) (rw e)
 sorted-two x y false false e f = is-name (rw e) (rw e)
 
-pub never : (a : Bool) → both a false ≡ false
-unfolding both
-never true = refl
-never false = refl
-
 sorted-more : (x y z : ℕ) (p : List ℕ) (dots : ℕ) → Sorted (x ∷ y ∷ z ∷ p) (sortOf (suc (suc (suc (length p)))) dots)
 unfolding dropped upward either same
 sorted-more x y z p dots = go (eqb (suc (suc (suc (length p)))) dots) refl
   where
     name : Sorted (x ∷ y ∷ z ∷ p) Name
-    name = is-name (never (eqb x dot)) (ap (both (eqb x dot)) (never (eqb y dot)) ∙ never (eqb x dot))
+    name = is-name (both-false (eqb x dot)) (ap (both (eqb x dot)) (both-false (eqb y dot)) ∙ both-false (eqb x dot))
 
     go : (t : Bool) → eqb (suc (suc (suc (length p)))) dots ≡ t → Sorted (x ∷ y ∷ z ∷ p) (sortOf (suc (suc (suc (length p)))) dots)
     go true e = rw (← sort-long (suc (suc (suc (length p)))) dots (eqb-true _ _ e) (omega arith)) name

@@ -1,16 +1,16 @@
 -- What the tests of the pointers mean: the account of the pointers, both ways.
 -- Assumes nothing.
-use mathlib.Core.Path.{_≡_, refl, sym, ap, _∙_}
+use mathlib.Core.Path.{_≡_, refl, sym, _∙_}
 use mathlib.Core.Bool.{Bool, true, false}
-use mathlib.Core.List.{List, [], _∷_, map}
+use mathlib.Core.List.{List, [], map}
 use Prim.Native.Nat.{ℕ, zero, suc, _+_, _*_, _/_, _%_, _≤_, _<_}
-use native.Mathlib.Nat.{mul-le-mul, not-suc-le-zero, mul-mod-left, div-lt-iff-lt-mul, le-div-iff-mul-le, suc-mul}
-use native.Mathlib.Decide.{decLt}
+use native.Mathlib.Nat.{mul-le-mul, mul-mod-left, div-lt-iff-lt-mul, le-div-iff-mul-le, suc-mul}
 use native.Mathlib.Omega.{arith}
 use lib.Dec.{eqb, ltb}
 use lib.ListN.{length, getD}
 use borrow.Author.Tests.{eq-eqb, ne-eqb}
-use Rattle.words.specs.Rule.{bit, tally, times, count}
+use Rattle.words.specs.Rule.{count}
+use Rattle.words.proofs.Counting.{tally-some, count-map, tally-none}
 use Rattle.words.proofs.Rules.{Says, holds, fails, says-map, says-both, says-upto, says-eqb, says-ltb, says-leb, tally-times}
 use Rattle.words.proofs.Multiples.{whole}
 use Rattle.allocator.specs.Opening.{lined}
@@ -30,29 +30,10 @@ pub says-lined : (s next p : ℕ) → Says ((p % s ≡ 0) × (p < next)) (lined 
 unfolding lined
 says-lined s next p = says-both (says-eqb (p % s) 0) (says-ltb p next)
 
-tally-none : (f : ℕ → Bool) (n : ℕ) → ((i : ℕ) → i < n → f i ≡ false) → tally n f ≡ 0
-unfolding tally bit
-tally-none f zero h = refl
-tally-none f (suc n) h = rw (tally-none f n (λ i b. h i (omega arith)), h n (omega arith))
-
-tally-some : (f : ℕ → Bool) (n i : ℕ) → i < n → f i ≡ true → 1 ≤ tally n f
-unfolding tally bit
-tally-some f zero i h e = absurd (not-suc-le-zero h)
-tally-some f (suc n) i h e = here (decLt i n) (λ b. tally-some f n i b e)
-  where
-    here : Dec (i < n) → (i < n → 1 ≤ tally n f) → 1 ≤ tally n f + bit (f n)
-    here (yes b) k = omega (arith, k b)
-    here (no b) k = let q : i ≡ n = omega arith in rw (← q, e) (omega arith)
-
-times-map : (p : ℕ) (cs : List ChunkRow) → times (λ c. eqb (c .pointer) p) cs ≡ times (λ m. eqb m p) (map (λ c. c .pointer) cs)
-unfolding times
-times-map p [] = refl
-times-map p (c ∷ cs) = ap (λ (k : ℕ). bit (eqb (c .pointer) p) + k) (times-map p cs)
-
 -- tallies over places are counts over lists
 rows-counted : (cs : List ChunkRow) (p : ℕ) → rowsStanding cs p ≡ count p (map (λ c. c .pointer) cs)
 unfolding rowsStanding count
-rows-counted cs p = tally-times (λ c. eqb (c .pointer) p) (readChunk []) cs ∙ times-map p cs
+rows-counted cs p = tally-times (λ c. eqb (c .pointer) p) (readChunk []) cs ∙ count-map (λ c. c .pointer) p cs
 
 free-counted : (ws : List ℕ) (p : ℕ) → freeStanding ws p ≡ count p ws
 unfolding freeStanding count
@@ -115,11 +96,3 @@ module _ (s next : ℕ) (pos : 0 < s) (al : next % s ≡ 0) (cs : List ChunkRow)
 
 pub mul-fits : (c s : ℕ) → c ≤ 4096 → s ≤ 65536 → c * s < 18446744073709551616
 mul-fits c s h k = omega (arith, mul-le-mul h k)
-
-pub bit-one : {x y n : ℕ} → x ≡ y → x ≡ n → 1 ≡ bit (eqb y n)
-unfolding bit
-bit-one e h = rw (← e, eq-eqb _ _ h)
-
-pub bit-none : {x y n : ℕ} → x ≡ y → (x ≡ n → ⊥) → 0 ≡ bit (eqb y n)
-unfolding bit
-bit-none e h = rw (← e, ne-eqb _ _ h)

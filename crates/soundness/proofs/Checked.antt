@@ -1,20 +1,19 @@
 -- What the whole check means: it accepts exactly what is sound.
 -- Assumes nothing.
-use mathlib.Core.Path.{_≡_, refl, ap, _∙_}
-use mathlib.Core.Bool.{Bool, true, false}
+use mathlib.Core.Path.{_≡_, _∙_}
+use mathlib.Core.Bool.{Bool, true}
 use mathlib.Core.List.{List, [], _∷_, map}
 use Prim.Native.Nat.{ℕ, _+_, _*_, _%_, _≤_, _<_}
 use native.Mathlib.Omega.{arith}
 use lib.ListN.{length}
 use Rattle.words.specs.Bytes.{word, Bytes}
-use Rattle.words.specs.Rule.{both, count}
+use Rattle.words.specs.Rule.{count}
 use Rattle.words.specs.Table.{Each, Asc}
 use Rattle.words.proofs.Numbers.{num-part}
+use Rattle.words.proofs.Joined.{both-true}
 use Rattle.words.proofs.Rules.{Says, says-map, says-both, says-and, says-true, true-says}
 use Rattle.types.specs.Sizes.{mostSize}
-use Rattle.types.specs.Nodes.{limitWord, fileLimit}
-use Rattle.types.specs.declared.Limit.{Limit}
-use Rattle.types.specs.declared.Limit.the-variants.{Unlimited, AtMost}
+use Rattle.types.proofs.Bytes.{limit-most}
 use Rattle.types.specs.declared.NodeRecord.{NodeRecord}
 use Rattle.paths.specs.Path.{nameAllowed}
 use Rattle.allocator.specs.Allocator.{free, readAllocator}
@@ -22,7 +21,7 @@ use Rattle.allocator.specs.Pointers.{due}
 use Rattle.allocator.proofs.Sized.{accepted-bounds}
 use Rattle.volume.specs.declared.Layout.{Layout}
 use Rattle.volume.specs.Rows.{Entry}
-use Rattle.volume.specs.Volume.{Volume, shown, laid}
+use Rattle.volume.specs.Volume.{Volume, shown}
 use Rattle.volume.specs.Geometry.{layoutOf}
 use Rattle.volume.specs.Framed.{Framed, NodeFits, Fits}
 use Rattle.volume.specs.Sound.{node, isDirectory, isThere, naming, nodeBefore, entryBefore, chunkBefore, Owned, NodeGood, Good, Sound}
@@ -154,10 +153,6 @@ pub framed-ready : (l : List ℕ) → Bytes l → Framed l → {y : Layout} → 
 framed-ready l b f e = record { formed = framed-formed l b f; layout = unfold shown in e }
 
 -- a size within its limit is at most 2^40
-limit-most : (m : Limit) → limitWord m ≤ mostSize → fileLimit m ≤ mostSize
-limit-most Unlimited h = omega arith
-limit-most (AtMost n) h = h
-
 sizes-of : (es : List Entry) (rs : List NodeRecord) → Each NodeFits rs → Each (NodeGood es) rs → Each (λ r. r .size ≤ mostSize) rs
 unfolding Each
 sizes-of es [] f g = tt
@@ -178,11 +173,6 @@ module _ (v : Volume) {s n : ℕ} (es : s ≡ v .allocator .chunkSize) (en : n �
 pub owned-as : (v : Volume) {s : ℕ} {r : Bool} → s ≡ v .allocator .chunkSize → r ≡ chunksOwned s (v .bytes) (v .nodes) (v .chunks) → r ≡ chunksOwned (v .allocator .chunkSize) (v .bytes) (v .nodes) (v .chunks)
 owned-as v es e = e ∙ rw es
 
-first-true : (a b : Bool) → both a b ≡ true → a ≡ true
-unfolding both
-first-true true b e = refl
-first-true false b e = e
-
 -- every chunk of a row lies in the area
 pub inside-as : (v : Volume) {s : ℕ} → s ≡ v .allocator .chunkSize → 0 < s → nextFits (v .allocator .chunkSize) (v .allocator .nextPtr) (length (v .bytes)) (v .chunkRoom) ≡ true
     → pointersGood (v .allocator .chunkSize) (v .allocator .nextPtr) (v .chunks) (free (v .allocator)) ≡ true
@@ -190,4 +180,4 @@ pub inside-as : (v : Volume) {s : ℕ} → s ≡ v .allocator .chunkSize → 0 <
 unfolding pointersGood
 inside-as v es pos f p i h =
     let k = says-true (says-next (v .allocator .chunkSize) (v .allocator .nextPtr) (length (v .bytes)) (v .chunkRoom)) f in
-    rw es (rows-inside (v .allocator .chunkSize) (v .allocator .nextPtr) (length (v .bytes)) (omega arith) (k .0) (k .1 .0) (v .chunks) (first-true _ _ p) i h)
+    rw es (rows-inside (v .allocator .chunkSize) (v .allocator .nextPtr) (length (v .bytes)) (omega arith) (k .0) (k .1 .0) (v .chunks) (both-true _ _ p .0) i h)

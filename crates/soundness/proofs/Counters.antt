@@ -1,20 +1,20 @@
 -- Counters by the rows of the nodes: each holds how many entries have the number of its row.
 -- Assumes nothing.
 use mathlib.Core.Path.{_≡_, refl, sym, ap, _∙_}
-use mathlib.Core.Bool.{Bool, true, false}
-use mathlib.Core.List.{List, [], _∷_}
-use mathlib.Core.Option.{none, some}
-use Prim.Native.Nat.{ℕ, zero, suc, _+_, _≤_, _<_}
-use native.Mathlib.Nat.{not-suc-le-zero, le-of-suc-le-suc}
+use mathlib.Core.Bool.{Bool, false}
+use mathlib.Core.List.{List, []}
+use Prim.Native.Nat.{ℕ, _+_, _≤_, _<_}
 use native.Mathlib.Decide.{decLt}
 use native.Mathlib.Omega.{arith}
 use lib.Dec.{eqb}
 use lib.ListN.{length, getD, set, replicate, getD-replicate, length-replicate, length-set}
 use lib.Seq.{getD-set-same, getD-set-other}
 use borrow.Author.Tests.{eqb-true, eqb-false}
-use Rattle.words.specs.Rule.{pick, bit, tally, times}
-use Rattle.words.specs.Table.{Each, Asc, find}
+use Rattle.words.specs.Rule.{bit, tally, times}
+use Rattle.words.specs.Table.{Asc}
 use Rattle.words.proofs.Order.{each-at}
+use Rattle.words.proofs.Places.{asc-at}
+use Rattle.words.proofs.FoundRows.{found-passes, none-passes}
 use Rattle.words.proofs.Rules.{Says, holds, fails, says-eqb, tally-turn, tally-le, tally-times}
 use Rattle.words.proofs.Counting.{bit-same, bit-apart}
 use Rattle.types.specs.declared.NodeRecord.{NodeRecord}
@@ -29,36 +29,15 @@ use Rattle.tables.proofs.Rooms.{rooms, count-nodes, count-entries}
 use Rattle.tables.proofs.Finds.{node-found, node-absent}
 use Rattle.soundness.specs.Counted.{nodeGood}
 use Rattle.soundness.specs.Counters.{bumped}
-use Rattle.soundness.proofs.Places.{asc-at}
 
 -- ---- the row that a search finds
-
--- what is found passes, and where nothing is found none passes
-module _ {R : Type 0} (hit : R → Bool) where
-  found-hits : (rs : List R) (r : R) → find hit rs ≡ some r → hit r ≡ true
-  unfolding find pick
-  found-hits [] r e = let x : _≡_ {A = ℕ} 0 1 = cc in absurd (omega arith)
-  found-hits (s ∷ rs) r e = go (hit s) refl e (found-hits rs r)
-    where
-      go : (b : Bool) → hit s ≡ b → pick b (some s) (find hit rs) ≡ some r → (find hit rs ≡ some r → hit r ≡ true) → hit r ≡ true
-      go true q z k = let w : s ≡ r = cc in rw w at q
-      go false q z k = k z
-
-  none-hits : (rs : List R) → find hit rs ≡ none → Each (λ r. hit r ≡ false) rs
-  unfolding find pick Each
-  none-hits [] e = tt
-  none-hits (s ∷ rs) e = go (hit s) refl e (none-hits rs)
-    where
-      go : (b : Bool) → hit s ≡ b → pick b (some s) (find hit rs) ≡ none → (find hit rs ≡ none → Each (λ r. hit r ≡ false) rs) → (hit s ≡ false) × Each (λ r. hit r ≡ false) rs
-      go true q z k = let x : _≡_ {A = ℕ} 0 1 = cc in absurd (omega arith)
-      go false q z k = (q, k z)
 
 module _ (n : ℕ) (rs : List NodeRecord) where
   -- a row that was found is there, and has the number
   pub row-there : (i : ℕ) → At i ≡ foundNode n rs → (i < length rs) × (nodeAt rs i .node ≡ n)
   row-there i e =
       let f = node-found n rs i e in
-      (f .0, eqb-true (nodeAt rs i .node) n (found-hits (λ r. eqb (r .node) n) rs (nodeAt rs i) (f .1)))
+      (f .0, eqb-true (nodeAt rs i .node) n (found-passes (λ r. eqb (r .node) n) rs (nodeAt rs i) (f .1)))
 
   module _ (a : Asc nodeBefore rs) (k : ℕ) (b : k < length rs) where
     -- and no other row has it
@@ -70,7 +49,7 @@ module _ (n : ℕ) (rs : List NodeRecord) where
         go (no h) = let f = row-there i e in let t = asc-at nodeBefore (readNode []) rs a k i (omega arith) (f .0) in omega arith
 
     row-missing : Nothing ≡ foundNode n rs → n ≡ nodeAt rs k .node → ⊥
-    row-missing e q = eqb-false (nodeAt rs k .node) n (each-at (λ r. eqb (r .node) n ≡ false) rs k (readNode []) (none-hits (λ r. eqb (r .node) n) rs (node-absent n rs a e)) b) (sym q)
+    row-missing e q = eqb-false (nodeAt rs k .node) n (each-at (λ r. eqb (r .node) n ≡ false) rs k (readNode []) (none-passes (λ r. eqb (r .node) n) rs (node-absent n rs a e)) b) (sym q)
 
     -- one more where the number is that of the row
     bumped-at : (m : List ℕ) → length rs ≤ length m → getD (bumped (foundNode n rs) m) k 0 ≡ getD m k 0 + bit (eqb n (nodeAt rs k .node))

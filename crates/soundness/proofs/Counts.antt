@@ -1,15 +1,16 @@
 -- What the tests that count entries mean.
 -- Assumes nothing.
 use mathlib.Core.Path.{_≡_, refl, ap}
-use mathlib.Core.Bool.{Bool, true}
+use mathlib.Core.Bool.{Bool}
 use mathlib.Core.List.{List, []}
 use mathlib.Core.Logic.{_⊎_, inl, inr}
 use Prim.Native.Nat.{ℕ, _+_, _≤_}
 use native.Mathlib.Omega.{arith}
 use lib.Dec.{eqb}
-use Rattle.words.specs.Rule.{bit, pick}
+use Rattle.words.specs.Rule.{bit}
 use Rattle.words.specs.Table.{Each}
-use Rattle.words.proofs.Rules.{Says, holds, fails, says-map, says-both, says-either, says-eqb, says-leb}
+use Rattle.words.proofs.Places.{each-places}
+use Rattle.words.proofs.Rules.{Says, holds, fails, says-map, says-both, says-if, says-either, says-eqb, says-leb}
 use Rattle.types.specs.Nodes.{limitFlag, fileLimit}
 use Rattle.types.specs.declared.Limit.{Limit}
 use Rattle.types.specs.declared.Limit.the-variants.{Unlimited, AtMost}
@@ -18,13 +19,6 @@ use Rattle.volume.specs.Rows.{Entry, readNode}
 use Rattle.volume.specs.Sound.{naming, entriesOf, NodeGood}
 use Rattle.soundness.specs.Counted.{directoryGood, nodeGood, nodesGood}
 use Rattle.soundness.proofs.Orders.{says-directory}
-use Rattle.soundness.proofs.Places.{each-places}
-
--- what holds where a condition does
-says-if : {P Q : Type 0} {a b : Bool} → Says P a → Says Q b → Says (P → Q) (pick a b true)
-unfolding pick
-says-if (holds p) q = says-map (λ y _. y) (λ k. k p) q
-says-if (fails p) q = holds (λ x. absurd (p x))
 
 says-unlimited : (m : Limit) → Says (m ≡ Unlimited) (eqb (limitFlag m) 0)
 says-unlimited Unlimited = holds refl

@@ -1,16 +1,17 @@
 -- Laws of the frame: the test says whether bytes are framed, and what its code finds.
 -- Assumes nothing.
-use mathlib.Core.Path.{_≡_, refl, ap, _∙_}
-use mathlib.Core.Bool.{Bool, true, false, false≢true}
+use mathlib.Core.Path.{_≡_, ap, _∙_}
+use mathlib.Core.Bool.{Bool, true, false}
 use mathlib.Core.List.{List}
-use Prim.Native.Nat.{ℕ, zero, suc, _+_, _-_, _*_, _/_, _≤_, _<_}
+use Prim.Native.Nat.{ℕ, _+_, _-_, _*_, _/_, _≤_, _<_}
 use native.Mathlib.Omega.{arith}
 use lib.ListN.{length, take, drop}
 use Rattle.words.specs.Bytes.{word, part}
-use Rattle.words.specs.Rule.{both, upto, allZero}
+use Rattle.words.specs.Rule.{allZero}
 use Rattle.words.proofs.Parts.{length-part}
 use Rattle.words.proofs.Numbers.{num-part}
-use Rattle.words.proofs.Rules.{Says, holds, fails, says-map, says-both, says-and, says-upto, says-eqb, says-leb, says-true, true-says, go-on}
+use Rattle.words.proofs.Joined.{upto-all}
+use Rattle.words.proofs.Rules.{Says, holds, says-map, says-both, says-and, says-upto, says-eqb, says-leb, says-itself, says-true, true-says, go-on}
 use Rattle.words.proofs.Blocks.{says-zeros}
 use Rattle.allocator.specs.Sizes.{acceptedSize}
 use Rattle.allocator.specs.Allocator.{marker}
@@ -30,10 +31,6 @@ use Rattle.soundness.specs.Frame.{headed, marked, rowsFormed, formed, fr
 
 -- ---- the tests mean what the records say
 
-says-bool : (b : Bool) → Says (b ≡ true) b
-says-bool true = holds refl
-says-bool false = fails (λ e. false≢true e)
-
 pub says-headed : (l : List ℕ) → Says (Headed l) (headed l)
 unfolding headed
 says-headed l =
@@ -46,7 +43,7 @@ pub says-marked : (l : List ℕ) → Says (Marked l) (marked l)
 unfolding marked
 says-marked l =
     says-map (λ p. record { mark = p .0; size = p .1 .0; free = p .1 .1 }) (λ h. (h .mark, (h .size, h .free)))
-    (says-both (says-eqb (word l 64) marker) (says-both (says-bool (acceptedSize (word l 72))) (says-leb (word l 80) (word l 24))))
+    (says-both (says-eqb (word l 64) marker) (says-both (says-itself (acceptedSize (word l 72))) (says-leb (word l 80) (word l 24))))
 
 pub says-rows : (Row : ℕ → Type 0) (row : ℕ → Bool) (s : ℕ) (l : List ℕ) (at used room : ℕ) → at + s * used + s * (room - used) ≤ length l → ((i : ℕ) → i < used → Says (Row (at + s * i)) (row (at + s * i)))
     → Says (RowsFormed Row s l at used room) (rowsFormed row s l at used room)
@@ -87,14 +84,9 @@ module _ (l : List ℕ) {n e c : ℕ} (p : n ≡ word l 8) (q : e ≡ word l 16)
       go (At y) k h = is-placed n e c (length l) h .0
       go Nowhere k h = absurd (omega arith)
 
-all-rows : (n : ℕ) → upto n (λ _. true) ≡ true
-unfolding upto both
-all-rows zero = refl
-all-rows (suc n) = rw (all-rows n)
-
 pub any-rows : (s : ℕ) (l : List ℕ) (at used room : ℕ) {r : Bool} → r ≡ allZero (part l (at + s * used) (s * (room - used))) → r ≡ rowsFormed (λ _. true) s l at used room
 unfolding rowsFormed
-any-rows s l at used room e = go-on _ _ (all-rows used) e
+any-rows s l at used room e = go-on _ _ (upto-all used) e
 
 -- the tables of a header that was checked, with numbers that were read
 module _ (l : List ℕ) {y : Layout} (k : y ≡ layoutOf (word l 8) (word l 16) (word l 24)) {used room : ℕ} where

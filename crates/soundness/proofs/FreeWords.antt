@@ -7,11 +7,10 @@ use Prim.Native.Nat.{ℕ, suc, _+_, _-_, _*_, _/_, _≤_, _<_}
 use native.Mathlib.Nat.{le-div-iff-mul-le, suc-mul}
 use native.Mathlib.Omega.{arith}
 use lib.Dec.{eqb}
-use lib.ListN.{length, take, drop, getD}
+use lib.ListN.{length, getD}
 use lib.Seq.{length-take-le, getD-take}
-use Rattle.words.specs.Bytes.{part, word}
+use Rattle.words.specs.Bytes.{word}
 use Rattle.words.specs.Rule.{upto, tally}
-use Rattle.words.proofs.Parts.{length-part}
 use Rattle.words.proofs.Numbers.{num-part}
 use Rattle.words.proofs.Rules.{tally-same, upto-same}
 use Rattle.words.proofs.Tables.{table-at}

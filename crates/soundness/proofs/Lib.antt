@@ -1,5 +1,4 @@
 pub mod Frames
-pub mod Places
 pub mod Orders
 pub mod Related
 pub mod Counters

@@ -1,18 +1,20 @@
 -- What the tests of rows mean.
 -- Assumes nothing.
-use mathlib.Core.Path.{_≡_, refl, ap}
-use mathlib.Core.Bool.{Bool, true, false, not, false≢true, true≢false}
+use mathlib.Core.Path.{_≡_, refl, ap, _∙_}
+use mathlib.Core.Bool.{Bool, true, false, not, false≢true}
 use mathlib.Core.List.{List, [], _∷_}
 use mathlib.Core.Option.{some}
-use Prim.Native.Nat.{ℕ, _+_, _-_, _≤_, _<_}
+use Prim.Native.Nat.{ℕ, _≤_, _<_}
 use native.Mathlib.Omega.{arith}
 use lib.Dec.{eqb, ltb, leb}
 use lib.ListN.{length}
 use borrow.Author.Tests.{ne-eqb, le-leb}
-use Rattle.words.specs.Rule.{both, bit, times, pick}
+use Rattle.words.specs.Rule.{both, pick, upto}
 use Rattle.words.specs.Table.{Each, Asc, find}
 use Rattle.words.proofs.Order.{each-map}
-use Rattle.words.proofs.Rules.{Says, holds, fails, says-map, says-leb, says-ltb}
+use Rattle.words.proofs.Places.{each-places, asc-places}
+use Rattle.words.proofs.Counting.{none-pass, pass-none}
+use Rattle.words.proofs.Rules.{Says, holds, fails, says-map, says-leb, says-ltb, says-itself, says-opposite}
 use Rattle.words.proofs.Search.{find-none}
 use Rattle.types.specs.Nodes.{kindByte}
 use Rattle.types.specs.declared.FileType.{FileType}
@@ -24,9 +26,9 @@ use Rattle.volume.specs.Rows.{Entry, readNode, readEntry, readChunk}
 use Rattle.volume.specs.Volume.{Volume}
 use Rattle.volume.specs.Search.{pairBefore}
 use Rattle.volume.specs.Sound.{node, isDirectory, naming, nodeBefore, entryBefore, chunkBefore}
+use Rattle.tables.specs.Tables.{nodeAt}
 use Rattle.tables.proofs.Finds.{says-pair, pair-trans}
 use Rattle.soundness.specs.Order.{nodesAscend, entriesAscend, chunksAscend, indexed, nodesBelow, rooted, rootUnnamed, namesAllowed}
-use Rattle.soundness.proofs.Places.{each-places, asc-places}
 
 -- ---- orders
 
@@ -56,34 +58,11 @@ pub says-below : (next : ℕ) (rs : List NodeRecord) → Says (Each (λ r. r .no
 unfolding nodesBelow
 says-below next rs = each-places (λ r. r .node < next) (readNode []) (λ r. ltb (r .node) next) (λ r. says-ltb (r .node) next) rs
 
-says-itself : (b : Bool) → Says (b ≡ true) b
-says-itself true = holds refl
-says-itself false = fails (λ e. false≢true e)
-
 pub says-names : (es : List Entry) → Says (Each (λ e. nameAllowed (e .name) ≡ true) es) (namesAllowed es)
 unfolding namesAllowed
 says-names es = each-places (λ e. nameAllowed (e .name) ≡ true) (readEntry []) (λ e. nameAllowed (e .name)) (λ e. says-itself (nameAllowed (e .name))) es
 
 -- ---- node 0
-
--- nothing is counted where nothing passes, and the other way round
-none-pass : {R : Type 0} (p : R → Bool) (rs : List R) → Each (λ r. p r ≡ false) rs → times p rs ≡ 0
-unfolding Each times bit
-none-pass p [] h = refl
-none-pass p (r ∷ rs) h = rw (h .0, none-pass p rs (h .1))
-
-pass-none : {R : Type 0} (p : R → Bool) (rs : List R) → times p rs ≡ 0 → Each (λ r. p r ≡ false) rs
-unfolding Each times bit
-pass-none p [] h = tt
-pass-none p (r ∷ rs) h = go (p r) refl h (pass-none p rs)
-  where
-    go : (b : Bool) → p r ≡ b → bit b + times p rs ≡ 0 → (times p rs ≡ 0 → Each (λ s. p s ≡ false) rs) → (p r ≡ false) × Each (λ s. p s ≡ false) rs
-    go true e z k = absurd (omega arith)
-    go false e z k = (e, k (omega arith))
-
-says-opposite : (b : Bool) → Says (b ≡ false) (not b)
-says-opposite true = fails (λ e. true≢false e)
-says-opposite false = holds refl
 
 pub says-unnamed : (es : List Entry) → Says (naming 0 es ≡ 0) (rootUnnamed es)
 unfolding rootUnnamed naming
@@ -113,3 +92,12 @@ found-root (r ∷ rs) a = go (leb 1 (length (r ∷ rs))) (le-leb 1 (length (r �
 pub says-root : (v : Volume) → Asc nodeBefore (v .nodes) → Says (isDirectory (node 0 v)) (rooted (v .nodes))
 unfolding node
 says-root v a = found-root (v .nodes) a
+
+-- ---- for the code: the numbers that it read
+
+pub pair-as : {p q s t a b c d : ℕ} {r : Bool} → r ≡ pairBefore p q s t → p ≡ a → q ≡ b → s ≡ c → t ≡ d → r ≡ pairBefore a b c d
+pair-as e f g h k = e ∙ rw (f, g, h, k)
+
+pub below-as : (rs : List NodeRecord) {m n : ℕ} {b : Bool} → m ≡ n → b ≡ upto (length rs) (λ i. ltb (nodeAt rs i .node) m) → b ≡ nodesBelow n rs
+unfolding nodesBelow
+below-as rs {m} {n} e h = h ∙ ap (λ (k : ℕ). upto (length rs) (λ i. ltb (nodeAt rs i .node) k)) e

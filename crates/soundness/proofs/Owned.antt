@@ -12,6 +12,7 @@ use lib.Seq.{drop-drop}
 use Rattle.words.specs.Bytes.{part}
 use Rattle.words.specs.Rule.{either, allZero}
 use Rattle.words.specs.Table.{Each, Asc, find}
+use Rattle.words.proofs.Places.{each-places}
 use Rattle.words.proofs.Rules.{Says, holds, fails, says-map, says-both, says-and, says-not, says-ltb, says-upto, says-true}
 use Rattle.words.proofs.Blocks.{says-zero-part, zero-part}
 use Rattle.words.proofs.Multiples.{parts, step-apart, gap}
@@ -32,7 +33,6 @@ use Rattle.soundness.specs.Pointers.{rowsLined}
 use Rattle.soundness.specs.Owners.{tailZero, ownedBy, ownedWhere, chunksOwned}
 use Rattle.soundness.proofs.Accounted.{says-lined}
 use Rattle.soundness.proofs.Orders.{says-directory}
-use Rattle.soundness.proofs.Places.{each-places}
 
 -- ---- what the code finds
 

@@ -12,6 +12,7 @@ use lib.Dec.{eqb}
 use lib.ListN.{length}
 use Rattle.words.specs.Rule.{upto, same}
 use Rattle.words.specs.Table.{Each, Asc, Falls, find, lead}
+use Rattle.words.proofs.Places.{each-places, asc-at, at-asc}
 use Rattle.words.proofs.Rules.{Says, holds, fails, true-says, says-map, says-not, says-upto, upto-start, upto-turn, upto-fail, upto-end}
 use Rattle.words.proofs.Blocks.{says-same}
 use Rattle.words.proofs.Search.{asc-falls, lead-above, lead-below}
@@ -27,7 +28,6 @@ use Rattle.tables.specs.declared.Found.the-variants.{At, Nothing}
 use Rattle.tables.proofs.Found.{the-type}
 use Rattle.tables.proofs.Finds.{PairBefore, says-pair, pair-falls, node-found, node-absent}
 use Rattle.soundness.specs.Entries.{isFound, foundDirectory, parentsGood, targetsFound, firstBeside, nameNew, namesOnce}
-use Rattle.soundness.proofs.Places.{each-places, asc-at, at-asc}
 use Rattle.soundness.proofs.Orders.{says-directory}
 
 -- ---- what a search for a number that a callee gave says

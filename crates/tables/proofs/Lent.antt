@@ -1,20 +1,19 @@
 -- The allocator's words as the part of the volume that is lent, and what a call on them makes of the volume.
 -- Assumes nothing.
-use mathlib.Core.Path.{_≡_, refl, sym, ap, _∙_}
+use mathlib.Core.Path.{_≡_, refl, ap, _∙_}
 use mathlib.Core.Bool.{Bool, true, false}
 use mathlib.Core.List.{List, _++_}
-use Prim.Native.Nat.{ℕ, _+_, _-_, _*_, _≤_, _<_}
+use Prim.Native.Nat.{ℕ, _+_, _-_, _*_, _≤_}
 use native.Mathlib.Omega.{arith}
-use lib.Dec.{eqb}
 use lib.ListN.{length, take, drop, length-set}
-use Rattle.words.specs.Bytes.{part, word, over}
+use Rattle.words.specs.Bytes.{part, word}
 use Rattle.words.specs.Rule.{pick}
 use Rattle.words.proofs.Parts.{length-part, lent-at}
 use Rattle.types.specs.declared.Answer.{Answer}
-use Rattle.allocator.specs.Sizes.{acceptedSize}
-use Rattle.allocator.specs.Allocator.{Allocator, Step, readAllocator, layAllocator, grown, popped, allocate, release, setChunkSize}
+use Rattle.allocator.specs.Allocator.{Allocator, Step, readAllocator, layAllocator, allocate, release, setChunkSize}
 use Rattle.allocator.specs.Words as AllocatorWords
 use Rattle.allocator.proofs.Sized.{accepted-bounds}
+use Rattle.allocator.proofs.Allocated.{allocate-rest}
 use Rattle.volume.specs.declared.Layout.{Layout}
 use Rattle.volume.specs.Framed.{Framed}
 use Rattle.volume.specs.Volume.{shown, laid, withAllocator}
@@ -31,12 +30,7 @@ pub record Kept (a b : Allocator) : Type 0 where
   pub words : length (b .words) ≡ length (a .words)
 
 pub allocate-keeps : (a : Allocator) → Kept a (allocate a .after)
-unfolding allocate pick
-allocate-keeps a = go (eqb (a .freeCount) 0)
-  where
-    go : (b : Bool) → Kept a (pick b (grown a) (popped a) .after)
-    go true = record { unread = refl; words = refl }
-    go false = record { unread = refl; words = refl }
+allocate-keeps a = let h = allocate-rest a in record { unread = ap length (h .unread); words = ap length (h .words) }
 
 pub release-keeps : (p : ℕ) (a : Allocator) → Kept a (release p a)
 unfolding release

@@ -117,3 +117,10 @@ area-long l y r = rw (rooms l y r .bytes) (sym (length-drop (atBytes (word l 8) 
 
 pub ready-laid : (w : Volume) → Fits w → Ready (laid w) (layoutAt w)
 ready-laid w f = record { formed = formed-laid w f; layout = ap layoutAt (sym (shown-laid w f)) }
+
+-- bytes that are a volume laid out: they show it, and are ready with its geometry
+pub shown-as : (w : Volume) → Fits w → {l : List ℕ} → l ≡ laid w → shown l ≡ w
+shown-as w f e = ap shown e ∙ shown-laid w f
+
+pub ready-as : (w : Volume) → Fits w → {l : List ℕ} {y : Layout} → l ≡ laid w → y ≡ layoutAt w → Ready l y
+ready-as w f e h = rw (e, h) (ready-laid w f)

@@ -1,9 +1,10 @@
--- Laws of kinds and limits: the case that each byte means, and that from a case to its bytes and back nothing is lost, either way.
+-- Laws of kinds and limits: the case that each byte means, that from a case to its bytes and back nothing is lost, either way, and how
+-- much a limit allows.
 -- Assumes nothing.
 use mathlib.Core.Path.{_≡_, refl, sym, ap, _∙_}
 use mathlib.Core.Bool.{Bool, true, false}
 use mathlib.Core.Logic.{_⊎_, inl, inr}
-use Prim.Native.Nat.{ℕ}
+use Prim.Native.Nat.{ℕ, _≤_}
 use native.Mathlib.Omega.{arith}
 use lib.Dec.{eqb}
 use borrow.Author.Tests.{ne-eqb, eqb-true, eqb-false}
@@ -13,7 +14,8 @@ use Rattle.types.specs.declared.FileType.the-variants.{Directory, Regula
 use Rattle.types.specs.declared.Limit.{Limit}
 use Rattle.types.specs.declared.Limit.the-variants.{Unlimited, AtMost}
 use Rattle.types.specs.declared.Kind.the-variants.{Known, Unknown}
-use Rattle.types.specs.Nodes.{kindOf, kindByte, limitOf, limitFlag, limitWord}
+use Rattle.types.specs.Nodes.{kindOf, kindByte, limitOf, limitFlag, limitWord, fileLimit}
+use Rattle.types.specs.Sizes.{mostSize}
 
 -- ---- the case that a byte means
 
@@ -77,3 +79,10 @@ limit-of-bytes (AtMost most) = sym (one-limit 1 most (λ e. omega arith))
 pub bytes-of-limit : (flag word : ℕ) → ((flag ≡ 0) × (word ≡ 0)) ⊎ (flag ≡ 1) → (limitFlag (limitOf flag word) ≡ flag) × (limitWord (limitOf flag word) ≡ word)
 bytes-of-limit flag word (inl h) = rw (← no-limit word (h .0)) (sym (h .0), sym (h .1))
 bytes-of-limit flag word (inr h) = rw (← one-limit flag word (λ e. omega arith)) (sym h, refl)
+
+-- ---- how much a limit allows
+
+-- no limit allows more than the most that a file can have
+pub limit-most : (m : Limit) → limitWord m ≤ mostSize → fileLimit m ≤ mostSize
+limit-most Unlimited h = omega arith
+limit-most (AtMost n) h = h

@@ -18,8 +18,8 @@ use Rattle.volume.specs.declared.ChunkRow.{ChunkRow}
 use Rattle.volume.specs.Rows.{Entry, layNode, readNode, layEntry, readEntry, layChunk, readChunk}
 use Rattle.volume.specs.Volume.{Volume, form, heads, areas, laid, shown, atNodes, atEntries, atChunks, atBytes}
 use Rattle.volume.specs.Framed.{Framed, NodeFits, EntryFits, ChunkFits, Fits, Formed}
-use Rattle.volume.proofs.Pieces.{glue, last-part, Read, words-again, area-again, each-rows}
-use Rattle.volume.proofs.Areas.{row-joined, unused-joined}
+use Rattle.words.proofs.Pieces.{glue, last-part, Read, words-again, area-again, each-rows}
+use Rattle.words.proofs.Areas.{row-joined, unused-joined}
 use Rattle.volume.proofs.RowLaws.{size-node, size-entry, size-chunk, read-node, read-entry, read-chunk, node-again, entry-again, chunk-again, node-fits, entry-fits, chunk-fits}
 use Rattle.allocator.specs.Words as AllocatorWords
 use Rattle.allocator.proofs.Laid as AllocatorLaid

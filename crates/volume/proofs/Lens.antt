@@ -1,20 +1,20 @@
 -- What writes into a volume do: one table changes, and nothing else. Positions are numbers with an equation each, as code computes them.
 -- Assumes nothing.
 use mathlib.Core.Path.{_≡_, refl, _∙_}
-use mathlib.Core.List.{List, [], _∷_, _++_, append-nil}
+use mathlib.Core.List.{List, [], _∷_, _++_}
 use Prim.Native.Nat.{ℕ, _+_, _-_, _*_, _≤_, _<_}
 use native.Mathlib.Omega.{arith}
 use lib.ListN.{length, take, drop, set}
 use Rattle.words.specs.Bytes.{part, over, zeros, spell}
 use Rattle.words.specs.Table.{insertAt, removeAt}
-use Rattle.words.proofs.Parts.{over-mid}
+use Rattle.words.proofs.Written.{over-all}
 use Rattle.words.proofs.Tables.{put-word, over-joined}
 use Rattle.types.specs.declared.NodeRecord.{NodeRecord}
 use Rattle.allocator.specs.Allocator.{Allocator, layAllocator}
 use Rattle.volume.specs.declared.ChunkRow.{ChunkRow}
 use Rattle.volume.specs.Rows.{Entry, layNode, layEntry, layChunk}
 use Rattle.volume.specs.Volume.{Volume, heads, areas, laid, atNodes, atEntries, atChunks, atBytes, withNext, withAllocator, withNodes, withEntries, withChunks, withBytes}
-use Rattle.volume.proofs.Areas.{Counted, write-row, append-row, insert-row, remove-rows, remove-row}
+use Rattle.words.proofs.Areas.{Counted, write-row, append-row, insert-row, remove-rows, remove-row}
 use Rattle.volume.proofs.RowLaws.{size-node, size-entry, size-chunk}
 use Rattle.volume.proofs.Laid.{Spaced, length-allocator, start-allocator, start-nodes, start-entries, start-chunks, start-bytes}
 use Rattle.allocator.proofs.Laid as AllocatorLaid
@@ -27,9 +27,6 @@ onto x at bs el em e = em ∙ rw el e
 pub write-next : (v : Volume) (x : ℕ) → over (laid v) 56 (spell 8 x) ≡ laid (withNext x v)
 unfolding laid
 write-next v x = put-word (heads v) (drop 1 (areas v)) 7 x (omega arith)
-
-over-all : (l bs : List ℕ) → length l ≡ length bs → over l 0 bs ≡ bs
-over-all l bs e = simp append-nil at (over-mid [] l [] bs 0 refl e)
 
 module _ (v : Volume) (f : Spaced v) where
   -- the allocator's part written

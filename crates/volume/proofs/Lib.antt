@@ -1,6 +1,4 @@
 pub mod Places
-pub mod Pieces
-pub mod Areas
 pub mod RowLaws
 pub mod RowSteps
 pub mod Laid

@@ -1,6 +1,5 @@
 -- Laws of sizes divided by the chunk size, rounded up: over the chunk size.
 -- Assumes nothing.
-use mathlib.Core.Path.{_≡_}
 use Prim.Native.Nat.{ℕ, suc, _+_, _-_, _*_, _/_, _≤_, _<_}
 use native.Mathlib.Nat.{le-div-iff-mul-le, div-lt-iff-lt-mul, le-mul-of-pos-right, suc-mul}
 use native.Mathlib.Decide.{decLt}

@@ -24,7 +24,7 @@ use Rattle.types.proofs.Bytes.{is-directory, is-file, is-link, kind-of-byte, li
 use Rattle.volume.specs.declared.ChunkRow.{ChunkRow}
 use Rattle.volume.specs.Rows.{Entry, kindOr, layNode, readNode, layEntry, readEntry, layChunk, readChunk}
 use Rattle.volume.specs.Framed.{NodeFormed, EntryFormed, NodeFits, EntryFits, ChunkFits}
-use Rattle.volume.proofs.Pieces.{glue, last-part, spelled}
+use Rattle.words.proofs.Pieces.{glue, last-part, spelled}
 
 -- ---- sizes
 

@@ -1,19 +1,18 @@
--- What the functions of rows do, step by step: a row read field by field, a row written piece by piece, and a search by halving.
+-- What the functions of rows do, step by step: a row read field by field, a row written piece by piece, and a row tested against a key.
 -- Assumes nothing.
 use mathlib.Core.Path.{_≡_, refl, sym, ap}
 use mathlib.Core.Bool.{Bool, true, false}
 use mathlib.Core.List.{List, [], _∷_, append-nil}
-use Prim.Native.Nat.{ℕ, _+_, _-_, _*_, _/_, _≤_, _<_}
+use Prim.Native.Nat.{ℕ, _+_, _-_, _≤_, _<_}
 use native.Mathlib.Nat.{add-zero}
 use native.Mathlib.Omega.{arith}
 use lib.ListN.{length, take, drop, length-append}
 use borrow.Author.Tests.{lt-ltb, le-ltb}
 use Rattle.words.specs.Bytes.{part, over, spell, num, word, zeros, padded}
-use Rattle.words.specs.Table.{table, layAll, layWords, joined, lead, Falls}
+use Rattle.words.specs.Table.{layAll, layWords, joined}
 use Rattle.words.proofs.Parts.{length-zeros, length-over, two}
 use Rattle.words.proofs.Numbers.{length-spell, num-part}
-use Rattle.words.proofs.Tables.{length-table, length-padded, padded-short}
-use Rattle.words.proofs.Search.{lead-le, seek-up, seek-down}
+use Rattle.words.proofs.Tables.{length-padded, padded-short}
 use Rattle.types.specs.Nodes.{kindOf, kindByte, limitOf, limitFlag, limitWord}
 use Rattle.types.specs.declared.FileType.{FileType}
 use Rattle.types.specs.declared.Kind.{Kind}
@@ -122,21 +121,3 @@ module _ (l : List ℕ) (at : ℕ) where
 
   pub chunk-is-under : (n i : ℕ) {x y : ℕ} {r : Bool} → x ≡ word l at → y ≡ word l (at + 8) → r ≡ pairBefore x y n i → r ≡ chunkUnder n i (readChunk (part l at 24))
   chunk-is-under n i p q e = rw (chunk-at l at, e, p, q)
-
--- ---- a search by halving: the rows before low pass the test, and those from high on fail it
-
-module _ {R : Type 0} (f : R → Bool) (read : List ℕ → R) (s : ℕ) (l : List ℕ) (base used : ℕ) where
-  abbrev pub Between : ℕ → ℕ → Type 0
-  Between low high = (low ≤ lead f (table read s l base used)) × (lead f (table read s l base used) ≤ high) × (high ≤ used)
-
-  pub all-between : Between 0 used
-  all-between = omega (arith, lead-le f (table read s l base used), length-table read s l base used)
-
-  pub upper-half : (low high : ℕ) → Between low high → low < high → Falls f (table read s l base used) → f (read (part l (base + s * (low + (high - low) / 2)) s)) ≡ true → Between (low + (high - low) / 2 + 1) high
-  upper-half low high b h g t = omega (arith, seek-up f read s l base used (low + (high - low) / 2) (omega arith) g t)
-
-  pub lower-half : (low high : ℕ) → Between low high → low < high → f (read (part l (base + s * (low + (high - low) / 2)) s)) ≡ false → Between low (low + (high - low) / 2)
-  lower-half low high b h t = omega (arith, seek-down f read s l base used (low + (high - low) / 2) (omega arith) t)
-
-  pub none-between : (low high : ℕ) → Between low high → high ≤ low → (low ≡ lead f (table read s l base used)) × (low ≤ used)
-  none-between low high b h = omega arith

@@ -1,10 +1,16 @@
 pub mod Parts
+pub mod Written
 pub mod Numbers
+pub mod Joined
 pub mod Rules
 pub mod Blocks
 pub mod Order
+pub mod Places
 pub mod Counting
 pub mod Multiples
 pub mod Tables
+pub mod Pieces
+pub mod Areas
 pub mod Search
+pub mod FoundRows
 pub mod Turns

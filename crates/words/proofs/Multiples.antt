@@ -1,7 +1,7 @@
 -- Division by a chunk size that is a variable.
 -- Assumes nothing.
-use mathlib.Core.Path.{_≡_, _∙_}
-use Prim.Native.Nat.{ℕ, suc, _+_, _-_, _*_, _/_, _%_, _≤_, _<_}
+use mathlib.Core.Path.{_≡_, ap, _∙_}
+use Prim.Native.Nat.{ℕ, suc, _+_, _-_, _*_, _/_, _%_, _≤_, _<_, min}
 use native.Mathlib.Omega.{arith}
 use native.Mathlib.Nat.{div-mul-le-self, lt-div-mul-add, mod-eq-sub-div-mul, div-eq-of-lt-le, div-add-mod', div-lt-iff-lt-mul, le-div-iff-mul-le, suc-mul, mul-le-mul-right, add-mod-right}
 use native.Mathlib.Numerals.{add-one}
@@ -42,3 +42,20 @@ gap S p q pos hp hq l =
 
 pub lined-next : (S p : ℕ) → p % S ≡ 0 → (p + S) % S ≡ 0
 lined-next S p h = add-mod-right p S ∙ h
+
+-- a step that stays in its chunk
+module _ (S j i : ℕ) (pos : 0 < S) (h : i < S - j % S) where
+  pub within-chunk : (j + i) / S ≡ j / S
+  within-chunk = chunk-of S (j / S) (j + i) (omega (arith, parts pos j)) (omega (arith, parts pos j))
+
+  pub within-rest : (j + i) % S ≡ j % S + i
+  within-rest =
+      let q : (j + i) / S * S ≡ j / S * S = ap (λ (k : ℕ). k * S) within-chunk in
+      omega (arith, parts pos j, parts pos (j + i))
+
+-- a step to the chunk's end
+pub next-chunk : (S j k left : ℕ) → 0 < S → k ≡ min left (S - j % S) → k < left → (j + k) / S ≡ j / S + 1
+next-chunk S j k left pos e h =
+    let f : k ≡ S - j % S = omega arith in
+    let m : (j / S + 1) * S ≡ j / S * S + S = rw add-one (suc-mul (j / S) S) in
+    chunk-of S (j / S + 1) (j + k) (omega (arith, parts pos j)) (omega (arith, parts pos j))

@@ -3,7 +3,7 @@
 use mathlib.Core.Path.{_≡_, refl, ap}
 use mathlib.Core.Bool.{Bool, true, false}
 use mathlib.Core.List.{List, [], _∷_, _++_}
-use Prim.Native.Nat.{ℕ, zero, suc, _+_, _-_, _<_}
+use Prim.Native.Nat.{ℕ, zero, suc, _+_, _<_}
 use native.Mathlib.Nat.{not-suc-le-zero, le-of-suc-le-suc, zero-add, suc-add}
 use lib.ListN.{set, length, take, drop, getD}
 use Rattle.words.specs.Table.{insertAt, lead, leadOf, Each, removeAt, Asc}
@@ -50,9 +50,20 @@ unfolding Each
 each-map P Q f [] h = tt
 each-map P Q f (r ∷ rs) h = (f r (h .0), each-map P Q f rs (h .1))
 
+-- after n were taken out from p on
+pub each-rest : {R : Type 0} (P : R → Type 0) (p n : ℕ) (rs : List R) → Each P rs → Each P (take p rs ++ drop (p + n) rs)
+each-rest P p n rs h = each-append P (take p rs) (drop (p + n) rs) (each-take P p rs h) (each-drop P (p + n) rs h)
+
 pub each-remove : {R : Type 0} (P : R → Type 0) (p : ℕ) (rs : List R) → Each P rs → Each P (removeAt p rs)
 unfolding removeAt
-each-remove P p rs k = each-append P (take p rs) (drop (p + 1) rs) (each-take P p rs k) (each-drop P (p + 1) rs k)
+each-remove P p rs h = each-rest P p 1 rs h
+
+-- after one was set
+pub each-set : {R : Type 0} (P : R → Type 0) (rs : List R) (i : ℕ) (r : R) → Each P rs → P r → Each P (set rs i r)
+unfolding Each
+each-set P [] i r h k = tt
+each-set P (q ∷ rs) zero r h k = (k, h .1)
+each-set P (q ∷ rs) (suc i) r h k = (h .0, each-set P rs i r (h .1) k)
 
 -- ---- order
 

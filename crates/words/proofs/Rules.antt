@@ -1,10 +1,10 @@
 -- Laws of joined tests: what a loop or a chain of returns says, and what a test means.
 -- Assumes nothing.
 use mathlib.Core.Path.{_≡_, refl, sym, ap, _∙_, subst}
-use mathlib.Core.Bool.{Bool, true, false, not, false≢true}
+use mathlib.Core.Bool.{Bool, true, false, not, false≢true, true≢false}
 use mathlib.Core.Logic.{_⊎_, inl, inr}
 use mathlib.Core.List.{List, [], _∷_}
-use Prim.Native.Nat.{ℕ, zero, suc, _+_, _-_, _≤_, _<_}
+use Prim.Native.Nat.{ℕ, zero, suc, _+_, _≤_, _<_}
 use native.Mathlib.Nat.{not-suc-le-zero}
 use native.Mathlib.Numerals.{add-one}
 use native.Mathlib.Omega.{arith}
@@ -13,6 +13,8 @@ use lib.Dec.{eqb, ltb, leb}
 use borrow.Author.Tests.{eqb-true, eqb-false, ltb-true, ltb-false, leb-true, leb-false, eq-eqb, ne-eqb, le-leb, lt-leb, not-true, not-false}
 use lib.ListN.{length, getD}
 use Rattle.words.specs.Rule.{pick, both, either, upto, apart, bit, tally, times}
+use Rattle.words.proofs.Joined.{both-false}
+use Rattle.words.proofs.Counting.{bit-most}
 
 -- b says whether P holds
 pub data Says (P : Type 0) : Bool → Type 0 where
@@ -57,11 +59,6 @@ pub upto-turn : (f : ℕ → Bool) (i : ℕ) → upto i f ≡ true → f i ≡ t
 unfolding upto both
 upto-turn f i p e = rw (add-one, p, e)
 
-both-false : (t : Bool) → both t false ≡ false
-unfolding both
-both-false true = refl
-both-false false = refl
-
 pub upto-fail : (f : ℕ → Bool) (n i : ℕ) → i < n → f i ≡ false → false ≡ upto n f
 unfolding upto both
 upto-fail f zero i h e = absurd (not-suc-le-zero h)
@@ -84,15 +81,10 @@ pub tally-turn : (f : ℕ → Bool) (i : ℕ) {c b : ℕ} → c ≡ tally i f �
 unfolding tally
 tally-turn f i p e = rw (add-one, p, e)
 
-bit-le : (b : Bool) → bit b ≤ 1
-unfolding bit
-bit-le true = omega arith
-bit-le false = omega arith
-
 pub tally-le : (f : ℕ → Bool) (n : ℕ) → tally n f ≤ n
 unfolding tally
 tally-le f zero = omega arith
-tally-le f (suc n) = omega (arith, tally-le f n, bit-le (f n))
+tally-le f (suc n) = omega (arith, tally-le f n, bit-most (f n))
 
 tally-front : (f : ℕ → Bool) (n : ℕ) → tally (suc n) f ≡ bit (f 0) + tally n (λ i. f (suc i))
 unfolding tally
@@ -124,6 +116,23 @@ says-true (fails p) e = absurd (false≢true e)
 pub true-says : {P : Type 0} {b : Bool} → Says P b → P → b ≡ true
 true-says (holds p) q = refl
 true-says (fails p) q = absurd (p q)
+
+pub says-false : {P : Type 0} {b : Bool} → Says P b → b ≡ false → P → ⊥
+says-false (holds p) e q = true≢false e
+says-false (fails p) e q = p q
+
+pub false-says : {P : Type 0} {b : Bool} → Says P b → (P → ⊥) → b ≡ false
+false-says (holds p) h = absurd (h p)
+false-says (fails p) h = refl
+
+-- a test says whether it is true, and its opposite whether it is false
+pub says-itself : (b : Bool) → Says (b ≡ true) b
+says-itself true = holds refl
+says-itself false = fails (λ e. false≢true e)
+
+pub says-opposite : (b : Bool) → Says (b ≡ false) (not b)
+says-opposite true = fails (λ e. true≢false e)
+says-opposite false = holds refl
 
 pub says-map : {P Q : Type 0} {b : Bool} → (P → Q) → (Q → P) → Says P b → Says Q b
 says-map f g (holds p) = holds (f p)
@@ -162,6 +171,12 @@ says-and (fails p) k = fails (λ pq. p (pq .0))
 
 pub says-both : {P Q : Type 0} {a b : Bool} → Says P a → Says Q b → Says (P × Q) (both a b)
 says-both p q = says-and p (λ _. q)
+
+-- what holds where a condition does
+pub says-if : {P Q : Type 0} {a b : Bool} → Says P a → Says Q b → Says (P → Q) (pick a b true)
+unfolding pick
+says-if (holds p) q = says-map (λ y _. y) (λ k. k p) q
+says-if (fails p) q = holds (λ x. absurd (p x))
 
 pub says-either : {P Q : Type 0} {a b : Bool} → Says P a → Says Q b → Says (P ⊎ Q) (either a b)
 unfolding either
@@ -220,6 +235,9 @@ le-no2 e f h = rw (← e, ← f) (lt-leb _ _ h)
 
 pub le-as : {x y a b : ℕ} → x ≡ y → a ≡ b → leb x a ≡ leb y b
 le-as e f = rw (e, f)
+
+pub lt-as : {x y a b : ℕ} → x ≡ y → a ≡ b → ltb x a ≡ ltb y b
+lt-as e f = rw (e, f)
 
 pub by1 : {A : Type 0} (g : ℕ → A) {r : A} {a b : ℕ} → r ≡ g a → a ≡ b → r ≡ g b
 by1 g e p = e ∙ ap g p

@@ -1,17 +1,20 @@
 -- Laws of `lead`: a search row by row, and one that halves.
 -- Assumes nothing.
 use mathlib.Core.Path.{_≡_, refl, sym, ap, _∙_}
-use mathlib.Core.Bool.{Bool, true, false, false≢true}
+use mathlib.Core.Bool.{Bool, true, false, not, false≢true}
 use mathlib.Core.List.{List, [], _∷_}
-use Prim.Native.Nat.{ℕ, zero, suc, _+_, _-_, _*_, _≤_, _<_}
+use Prim.Native.Nat.{ℕ, zero, suc, _+_, _-_, _*_, _/_, _≤_, _<_}
 use native.Mathlib.Nat.{zero-add, sub-self, sub-zero, not-suc-le-zero, le-of-suc-le-suc}
-use native.Mathlib.Numerals.{one-add, sub-one}
+use native.Mathlib.Numerals.{add-one, one-add, sub-one}
 use native.Mathlib.Omega.{arith}
-use mathlib.Core.Option.{Option, none, some}
-use lib.ListN.{length, getD}
+use mathlib.Core.Option.{none, some}
+use lib.Dec.{eqb}
+use lib.ListN.{length, drop, getD}
+use lib.Seq.{drop-cons}
+use borrow.Author.Tests.{ne-eqb}
 use Rattle.words.specs.Bytes.{part}
 use Rattle.words.specs.Rule.{pick}
-use Rattle.words.specs.Table.{Asc, Each, Falls, find, lead, leadOf, table}
+use Rattle.words.specs.Table.{Asc, Each, Falls, find, insertAt, lead, leadOf, table}
 use Rattle.words.proofs.Order.{each-at, each-map}
 use Rattle.words.proofs.Tables.{length-table, table-at}
 
@@ -71,16 +74,11 @@ module _ {R : Type 0} (f : R → Bool) where
   lead-above (r ∷ rs) zero d h b g = rw g (omega arith)
   lead-above (r ∷ rs) (suc k) d h b g = lead-above-of (f r) r rs k d refl h b g (lead-above rs k d (h .1) (le-of-suc-le-suc b) g)
 
-  lead-below-of : (t : Bool) (m k : ℕ) → m ≤ k → leadOf t m ≤ suc k
-  unfolding leadOf
-  lead-below-of true m k h = omega arith
-  lead-below-of false m k h = omega arith
-
   pub lead-below : (rs : List R) (k : ℕ) (d : R) → k < length rs → f (getD rs k d) ≡ false → lead f rs ≤ k
   unfolding lead leadOf
   lead-below [] k d b g = absurd (not-suc-le-zero b)
   lead-below (r ∷ rs) zero d b g = rw g (omega arith)
-  lead-below (r ∷ rs) (suc k) d b g = lead-below-of (f r) (lead f rs) k (lead-below rs k d (le-of-suc-le-suc b) g)
+  lead-below (r ∷ rs) (suc k) d b g = lead-le-of (f r) (lead f rs) k (lead-below rs k d (le-of-suc-le-suc b) g)
 
 module _ {R : Type 0} (f : R → Bool) (read : List ℕ → R) (s : ℕ) (l : List ℕ) (at n k : ℕ) (h : k < n) where
   pub seek-up : Falls f (table read s l at n) → f (read (part l (at + s * k) s)) ≡ true → k < lead f (table read s l at n)
@@ -88,6 +86,24 @@ module _ {R : Type 0} (f : R → Bool) (read : List ℕ → R) (s : ℕ) (l : Li
 
   pub seek-down : f (read (part l (at + s * k) s)) ≡ false → lead f (table read s l at n) ≤ k
   seek-down e = lead-below f (table read s l at n) k (read []) (rw length-table h) (ap f (table-at read s l at n k (read []) h) ∙ e)
+
+-- ---- a search by halving: the rows before low pass the test, and those from high on fail it
+
+module _ {R : Type 0} (f : R → Bool) (read : List ℕ → R) (s : ℕ) (l : List ℕ) (base used : ℕ) where
+  abbrev pub Between : ℕ → ℕ → Type 0
+  Between low high = (low ≤ lead f (table read s l base used)) × (lead f (table read s l base used) ≤ high) × (high ≤ used)
+
+  pub all-between : Between 0 used
+  all-between = omega (arith, lead-le f (table read s l base used), length-table read s l base used)
+
+  pub upper-half : (low high : ℕ) → Between low high → low < high → Falls f (table read s l base used) → f (read (part l (base + s * (low + (high - low) / 2)) s)) ≡ true → Between (low + (high - low) / 2 + 1) high
+  upper-half low high b h g t = omega (arith, seek-up f read s l base used (low + (high - low) / 2) (omega arith) g t)
+
+  pub lower-half : (low high : ℕ) → Between low high → low < high → f (read (part l (base + s * (low + (high - low) / 2)) s)) ≡ false → Between low (low + (high - low) / 2)
+  lower-half low high b h t = omega (arith, seek-down f read s l base used (low + (high - low) / 2) (omega arith) t)
+
+  pub none-between : (low high : ℕ) → Between low high → high ≤ low → (low ≡ lead f (table read s l base used)) × (low ≤ used)
+  none-between low high b h = omega arith
 
 -- ---- rows in order
 
@@ -127,3 +143,63 @@ module _ {R : Type 0} (f hit : R → Bool) (d : R) (not-under : (r : R) → f r 
       go false q z i =
           let a : hit r ≡ false = z (omega arith) in
           rw a (find-none hit rs (each-map (λ b. f r ≡ false → hit r ≡ false → hit b ≡ false) (λ b. hit b ≡ false) (λ b k. k q a) rs (o .0)))
+
+-- ---- from a row on
+
+module _ {R : Type 0} (f : R → Bool) (d : R) (rs : List R) (i : ℕ) (h : i < length rs) where
+  pub from-more : f (getD rs i d) ≡ true → lead f (drop i rs) ≡ 1 + lead f (drop (i + 1) rs)
+  unfolding lead leadOf
+  from-more e = rw (drop-cons rs i d h, e, add-one, one-add)
+
+  pub from-stop : f (getD rs i d) ≡ false → lead f (drop i rs) ≡ 0
+  unfolding lead leadOf
+  from-stop e = rw (drop-cons rs i d h, e)
+
+  -- a row passes where any lead from it on
+  pub from-some : f (getD rs i d) ≡ not (eqb (lead f (drop i rs)) 0)
+  from-some = go (f (getD rs i d)) refl
+    where
+      go : (b : Bool) → f (getD rs i d) ≡ b → b ≡ not (eqb (lead f (drop i rs)) 0)
+      go true e = rw (ne-eqb (lead f (drop i rs)) 0 (λ q. omega (arith, from-more e)))
+      go false e = rw (from-stop e)
+
+-- ---- two tests, of which the second lets at most one row more pass
+
+module _ {R : Type 0} (f g : R → Bool) (d : R) (wider : (r : R) → f r ≡ true → g r ≡ true) where
+  pub lead-stays : (rs : List R) → (lead f rs < length rs → g (getD rs (lead f rs) d) ≡ false) → lead g rs ≡ lead f rs
+  unfolding lead leadOf
+  lead-stays [] h = refl
+  lead-stays (r ∷ rs) h = go (f r) refl h (lead-stays rs)
+    where
+      go : (t : Bool) → f r ≡ t → (leadOf t (lead f rs) < suc (length rs) → g (getD (r ∷ rs) (leadOf t (lead f rs)) d) ≡ false)
+          → ((lead f rs < length rs → g (getD rs (lead f rs) d) ≡ false) → lead g rs ≡ lead f rs) → leadOf (g r) (lead g rs) ≡ leadOf t (lead f rs)
+      go true q z i = rw (wider r q) (ap suc (i (λ b. z (omega arith))))
+      go false q z i = let e : g r ≡ false = z (omega arith) in rw e
+
+  module _ (lt : R → R → Type 0) (after : (a b : R) → lt a b → f a ≡ false → g b ≡ false) where
+    stops : (r : R) (rs : List R) → f r ≡ false → Each (lt r) rs → lead g rs ≡ 0
+    unfolding lead leadOf Each
+    stops r [] q h = refl
+    stops r (s ∷ rs) q h = rw (after r s (h .0) q)
+
+    pub lead-next : (rs : List R) → Asc lt rs → lead f rs < length rs → g (getD rs (lead f rs) d) ≡ true → lead g rs ≡ lead f rs + 1
+    unfolding lead leadOf Asc
+    lead-next [] a b h = absurd (not-suc-le-zero b)
+    lead-next (r ∷ rs) a b h = go (f r) refl b h (lead-next rs (a .1))
+      where
+        go : (t : Bool) → f r ≡ t → leadOf t (lead f rs) < suc (length rs) → g (getD (r ∷ rs) (leadOf t (lead f rs)) d) ≡ true
+            → (lead f rs < length rs → g (getD rs (lead f rs) d) ≡ true → lead g rs ≡ lead f rs + 1) → leadOf (g r) (lead g rs) ≡ leadOf t (lead f rs) + 1
+        go true q b z i = let e : lead g rs ≡ lead f rs + 1 = i (le-of-suc-le-suc b) z in rw (wider r q) (omega arith)
+        go false q b z i = rw (z, stops r rs q (a .0))
+
+-- ---- a row put in
+
+-- a row put in where the test first fails, and the test fails on it: it first fails there
+pub lead-insert : {R : Type 0} (f : R → Bool) (r : R) (rs : List R) → f r ≡ false → lead f (insertAt (lead f rs) r rs) ≡ lead f rs
+unfolding lead leadOf insertAt
+lead-insert f r [] e = rw e
+lead-insert f r (s ∷ rs) e = go (f s) refl (lead-insert f r rs e)
+  where
+    go : (b : Bool) → f s ≡ b → lead f (insertAt (lead f rs) r rs) ≡ lead f rs → lead f (insertAt (leadOf b (lead f rs)) r (s ∷ rs)) ≡ leadOf b (lead f rs)
+    go true q h = rw q (ap suc h)
+    go false q h = rw e

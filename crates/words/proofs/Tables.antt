@@ -10,7 +10,7 @@ use lib.ListN.{length, take, drop, getD, set, length-append, length-drop, length
 use lib.Seq.{take-append-add, take-at, drop-at, length-take-le, set-split, split-at, take-length, drop-length}
 use Rattle.words.specs.Bytes.{part, over, zeros, padded, value, spell, num}
 use Rattle.words.specs.Table.{layAll, table, insertAt, joined, area, layWords, Each, removeAt}
-use Rattle.words.proofs.Parts.{length-zeros, zeros-add, over-mid, part-add, part-mid, part-in, over-in, part-zero}
+use Rattle.words.proofs.Parts.{length-zeros, zeros-add, over-mid, part-mid, part-in, over-in, part-zero}
 use Rattle.words.proofs.Numbers.{length-spell, value-spell}
 use Rattle.words.proofs.Order.{each-at}
 
@@ -61,8 +61,6 @@ module _ {R : Type 0} (lay : R → List ℕ) (s : ℕ) (sized : (r : R) → leng
       let q : length (layAll lay (take p rs)) ≡ s * p = length-layAll lay s sized (take p rs) ∙ ap (λ (k : ℕ). s * k) (length-take-le p rs h) in
       let d : length (layAll lay (drop p rs)) ≡ s * (length rs - p) = length-layAll lay s sized (drop p rs) ∙ ap (λ (k : ℕ). s * k) (length-drop p rs) in
       rw take-append-drop at (insert₂ A (take p rs) (drop p rs) Z C at r (s * (length rs - p)) (omega arith) d z)
-
--- one more row that passes, and the first that does not
 
 -- ---- areas
 
@@ -255,16 +253,6 @@ pub set-area : {R : Type 0} (lay : R → List ℕ) (s : ℕ) (sized : (r : R) �
 unfolding area
 set-area lay s sized room rs k r h = rw (length-set rs k r) (set-lay lay s sized rs (zeros (s * (room - length rs))) k r h)
 
--- rows that are read are laid out again
-pub lay-table : {R : Type 0} (read : List ℕ → R) (lay : R → List ℕ) (s : ℕ) (l : List ℕ) → ((at : ℕ) → at + s ≤ length l → lay (read (part l at s)) ≡ part l at s)
-    → (at n : ℕ) → at + s * n ≤ length l → layAll lay (table read s l at n) ≡ part l at (s * n)
-unfolding layAll table
-lay-table read lay s l h at zero k = rw (mul-zero) (sym (part-zero l at))
-lay-table read lay s l h at (suc n) k =
-    let e : s * suc n ≡ s + s * n = mul-suc s n ∙ add-comm (s * n) s in
-    let m = rw e at k in
-    rw (e, part-add l at s (s * n), h at (omega arith), lay-table read lay s l h (at + s) n (omega arith))
-
 -- a table, cut in two
 pub table-add : {R : Type 0} (read : List ℕ → R) (s : ℕ) (l : List ℕ) (at m n : ℕ) → table read s l at (m + n) ≡ table read s l at m ++ table read s l (at + s * m) n
 unfolding table
@@ -272,12 +260,3 @@ table-add read s l at zero n = rw (zero-add, mul-zero, add-zero)
 table-add {R = R} read s l at (suc m) n =
     let e : at + s + s * m ≡ at + s * suc m = omega (arith, mul-suc s m) in
     rw (suc-add) (ap (λ (t : List R). read (part l at s) ∷ t) (table-add read s l (at + s) m n ∙ ap (λ (k : ℕ). table read s l (at + s) m ++ table read s l k n) e))
-
--- every row of a table, by what holds of the bytes of each
-pub each-table : {R : Type 0} (P : R → Type 0) (read : List ℕ → R) (s : ℕ) (l : List ℕ) → ((at : ℕ) → at + s ≤ length l → P (read (part l at s)))
-    → (at n : ℕ) → at + s * n ≤ length l → Each P (table read s l at n)
-unfolding Each table
-each-table P read s l h at zero k = tt
-each-table P read s l h at (suc n) k =
-    let e = mul-suc s n in
-    (h at (omega arith), each-table P read s l h (at + s) n (omega arith))

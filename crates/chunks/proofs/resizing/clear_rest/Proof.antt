@@ -2,7 +2,7 @@ use borrow.Author.Needs.{needs}
 use Rattle.chunks.proofs.resizing.clear_rest.Statement.{statement}
 use Rattle.chunks.proofs.resizing.clear_rest.Tie as tie
 use Rattle.chunks.proofs.Puts.{chunk-ends}
-use Rattle.chunks.proofs.Resizes.{rest-cleared}
+use Rattle.chunks.proofs.Tails.{rest-cleared}
 use denote.Ref.{now}
 use native.Mathlib.Omega.{arith}
 

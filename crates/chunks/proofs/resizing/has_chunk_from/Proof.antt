@@ -1,7 +1,7 @@
 use borrow.Author.Needs.{needs}
 use Rattle.chunks.proofs.resizing.has_chunk_from.Statement.{statement}
 use Rattle.chunks.proofs.resizing.has_chunk_from.Tie as tie
-use Rattle.chunks.proofs.Resizes.{none-from, some-from}
+use Rattle.chunks.proofs.Tails.{none-from, some-from}
 use denote.Ref.{now}
 use Rattle.volume.specs.Volume.{shown}
 

@@ -1,7 +1,7 @@
 use borrow.Author.Needs.{needs}
 use Rattle.chunks.proofs.resizing.is_cramped.Statement.{statement}
 use Rattle.chunks.proofs.resizing.is_cramped.Tie as tie
-use Rattle.chunks.proofs.Resizes.{cramped-frees, cramped-is}
+use Rattle.chunks.proofs.Tails.{cramped-frees, cramped-is}
 use denote.Ref.{now}
 use Rattle.volume.specs.Volume.{shown}
 

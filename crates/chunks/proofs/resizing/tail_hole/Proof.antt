@@ -1,7 +1,7 @@
 use borrow.Author.Needs.{needs}
 use Rattle.chunks.proofs.resizing.tail_hole.Statement.{statement}
 use Rattle.chunks.proofs.resizing.tail_hole.Tie as tie
-use Rattle.chunks.proofs.Resizes.{tail-even, tail-there, tail-missing}
+use Rattle.chunks.proofs.Tails.{tail-even, tail-there, tail-missing}
 use denote.Ref.{now}
 use Rattle.volume.specs.Volume.{shown}
 

@@ -1,7 +1,7 @@
 use borrow.Author.Needs.{needs}
 use Rattle.chunks.proofs.resizing.zero_tail.Statement.{statement}
 use Rattle.chunks.proofs.resizing.zero_tail.Tie as tie
-use Rattle.chunks.proofs.Resizes.{tail-same, tail-row, clear-asked, tail-cleared, take-asked, tail-taken}
+use Rattle.chunks.proofs.Tails.{tail-same, tail-row, clear-asked, tail-cleared, take-asked, tail-taken}
 use denote.Ref.{now}
 
 chunk-size-requires : tie.Need-chunk-size-requires

@@ -6,7 +6,7 @@ use native.Mathlib.Omega.{arith}
 use Prim.Native.Nat.{_-_}
 use Rattle.volume.specs.Volume.{shown}
 use Rattle.tables.proofs.Lent.{size-bounds}
-use Rattle.chunks.proofs.Fills.{room-is, room-small}
+use Rattle.chunks.proofs.RoomCount.{room-is, room-small}
 
 chunk-room-requires : tie.Need-chunk-room-requires
 chunk-room-requires c κs = search needs

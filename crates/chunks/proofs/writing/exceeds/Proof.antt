@@ -1,7 +1,7 @@
 use Rattle.chunks.proofs.writing.exceeds.Statement.{statement}
 use Rattle.chunks.proofs.writing.exceeds.Tie as tie
 use borrow.Author.Tests.{lt-ltb}
-use Rattle.chunks.proofs.Fills.{past-limit}
+use Rattle.chunks.proofs.RoomCount.{past-limit}
 use mathlib.Core.Path.{sym}
 use native.Mathlib.Omega.{arith}
 use Prim.Native.Nat.{_+_}

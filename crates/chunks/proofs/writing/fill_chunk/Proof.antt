@@ -2,7 +2,7 @@ use borrow.Author.Needs.{needs}
 use Rattle.chunks.proofs.writing.fill_chunk.Statement.{statement}
 use Rattle.chunks.proofs.writing.fill_chunk.Tie as tie
 use denote.Ref.{now}
-use Rattle.chunks.proofs.Fills.{filled}
+use Rattle.words.proofs.Written.{filled}
 
 add-rest : tie.Need-add-rest
 add-rest c = search needs

@@ -3,7 +3,7 @@ use Rattle.chunks.proofs.writing.is_cramped.Statement.{statement}
 use Rattle.chunks.proofs.writing.is_cramped.Tie as tie
 use denote.Ref.{now}
 use Rattle.volume.specs.Volume.{shown}
-use Rattle.chunks.proofs.Fills.{cramped-is}
+use Rattle.chunks.proofs.RoomCount.{cramped-is}
 
 chunk-size-requires : tie.Need-chunk-size-requires
 chunk-size-requires c κs = search needs

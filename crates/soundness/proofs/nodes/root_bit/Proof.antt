@@ -2,7 +2,7 @@ use Rattle.soundness.proofs.nodes.root_bit.Statement.{statement}
 use Rattle.soundness.proofs.nodes.root_bit.Tie as tie
 use mathlib.Core.Path.{refl}
 use native.Mathlib.Omega.{arith}
-use Rattle.soundness.proofs.Accounted.{bit-one, bit-none}
+use Rattle.words.proofs.Counting.{bit-one, bit-none}
 
 returns : tie.Need-returns
 returns c = (bit-one refl (c .if1 .taken), omega arith)

@@ -6,7 +6,7 @@ use Rattle.soundness.proofs.order.entry_ascends.Lts as lts
 use Rattle.tables.proofs.entry_index.Reads as entry-index-reads
 use Rattle.tables.proofs.entry_parent.Reads as entry-parent-reads
 use Rattle.volume.proofs.pair_before.Reads as pair-before-reads
-use Rattle.soundness.proofs.Places.{pair-as}
+use Rattle.soundness.proofs.Orders.{pair-as}
 
 -- src/order.rt:51:9
 entry-parent-requires : tie.Need-entry-parent-requires

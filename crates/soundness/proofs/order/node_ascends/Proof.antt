@@ -4,7 +4,7 @@ use Rattle.soundness.proofs.order.node_ascends.Tie as tie
 use Rattle.soundness.proofs.order.node_ascends.Reads as reads
 use Rattle.soundness.proofs.order.node_ascends.Lts as lts
 use Rattle.tables.proofs.node_number.Reads as node-number-reads
-use Rattle.soundness.proofs.Places.{lt-as}
+use Rattle.words.proofs.Rules.{lt-as}
 
 -- src/order.rt:27:5
 node-number-requires : tie.Need-node-number-requires

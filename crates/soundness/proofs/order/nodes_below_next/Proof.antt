@@ -12,7 +12,7 @@ use Rattle.words.proofs.Rules.{upto-start, upto-turn, upto-fail, upto-end, call
 use Rattle.volume.specs.Volume.{shown}
 use Rattle.tables.specs.Tables.{nodeAt}
 use Rattle.soundness.specs.Order.{nodesBelow}
-use Rattle.soundness.proofs.Places.{below-as}
+use Rattle.soundness.proofs.Orders.{below-as}
 use Rattle.soundness.proofs.order.nodes_below_next.Tie as tie
 
 abbrev Inv-loop : tie.InvT-loop

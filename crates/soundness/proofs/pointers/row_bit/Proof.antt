@@ -3,7 +3,7 @@ use Rattle.soundness.proofs.pointers.row_bit.Statement.{statement}
 use mathlib.Core.Path.{ap}
 use Prim.Native.Nat.{_-_}
 use native.Mathlib.Omega.{arith}
-use Rattle.soundness.proofs.Accounted.{bit-one, bit-none}
+use Rattle.words.proofs.Counting.{bit-one, bit-none}
 use Rattle.soundness.proofs.pointers.row_bit.Tie as tie
 
 chunk-row-requires : tie.Need-chunk-row-requires

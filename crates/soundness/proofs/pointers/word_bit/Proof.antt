@@ -3,7 +3,7 @@ use Rattle.soundness.proofs.pointers.word_bit.Statement.{statement}
 use Prim.Native.Nat.{_-_}
 use native.Mathlib.Omega.{arith}
 use Rattle.allocator.specs.Opening.{freeWord}
-use Rattle.soundness.proofs.Accounted.{bit-one, bit-none}
+use Rattle.words.proofs.Counting.{bit-one, bit-none}
 use Rattle.soundness.proofs.pointers.word_bit.Tie as tie
 
 get-ptr-requires : tie.Need-get-ptr-requires

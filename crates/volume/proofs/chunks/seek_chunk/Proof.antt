@@ -5,7 +5,7 @@ use mathlib.Core.Path.{sym, _∙_}
 use Prim.Native.Nat.{_-_}
 use Rattle.volume.specs.Rows.{readChunk}
 use Rattle.volume.specs.Search.{chunkUnder}
-use Rattle.volume.proofs.RowSteps.{Between, all-between, upper-half, lower-half, none-between}
+use Rattle.words.proofs.Search.{Between, all-between, upper-half, lower-half, none-between}
 use Rattle.volume.proofs.chunks.seek_chunk.Tie as tie
 
 abbrev Inv-loop : tie.InvT-loop

@@ -4,7 +4,8 @@ use denote.Ref.{now}
 use Prim.Native.Nat.{_+_, _-_, _*_, _/_}
 use Rattle.volume.specs.Rows.{readNode}
 use Rattle.volume.specs.Search.{nodeUnder}
-use Rattle.volume.proofs.RowSteps.{Between, all-between, upper-half, lower-half, none-between, node-is-under, node-not-under}
+use Rattle.words.proofs.Search.{Between, all-between, upper-half, lower-half, none-between}
+use Rattle.volume.proofs.RowSteps.{node-is-under, node-not-under}
 use Rattle.volume.proofs.nodes.seek_node.Tie as tie
 
 abbrev Inv-loop : tie.InvT-loop

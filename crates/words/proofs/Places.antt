@@ -1,33 +1,15 @@
 -- Rows by their place, as code reads them, and a test of every place as a test of every row.
 -- Assumes nothing.
-use mathlib.Core.Path.{_≡_, ap, _∙_}
 use mathlib.Core.Bool.{Bool}
 use mathlib.Core.List.{List, [], _∷_}
 use Prim.Native.Nat.{ℕ, zero, suc, _+_, _-_, _<_}
 use native.Mathlib.Numerals.{add-one}
 use native.Mathlib.Omega.{arith}
-use lib.Dec.{ltb}
 use lib.ListN.{length, getD}
 use Rattle.words.specs.Rule.{upto}
 use Rattle.words.specs.Table.{Each, Asc}
 use Rattle.words.proofs.Order.{each-at, each-map}
 use Rattle.words.proofs.Rules.{Says, says-map, says-upto}
-use Rattle.types.specs.declared.NodeRecord.{NodeRecord}
-use Rattle.volume.specs.Search.{pairBefore}
-use Rattle.tables.specs.Tables.{nodeAt}
-use Rattle.soundness.specs.Order.{nodesBelow}
-
--- ---- a comparison of what callees gave
-
-pub lt-as : {x y a b : ℕ} → x ≡ y → a ≡ b → ltb x a ≡ ltb y b
-lt-as e f = rw (e, f)
-
-pub pair-as : {p q s t a b c d : ℕ} {r : Bool} → r ≡ pairBefore p q s t → p ≡ a → q ≡ b → s ≡ c → t ≡ d → r ≡ pairBefore a b c d
-pair-as e f g h k = e ∙ rw (f, g, h, k)
-
-pub below-as : (rs : List NodeRecord) {m n : ℕ} {b : Bool} → m ≡ n → b ≡ upto (length rs) (λ i. ltb (nodeAt rs i .node) m) → b ≡ nodesBelow n rs
-unfolding nodesBelow
-below-as rs {m} {n} e h = h ∙ ap (λ (k : ℕ). upto (length rs) (λ i. ltb (nodeAt rs i .node) k)) e
 
 -- ---- every place, every row
 

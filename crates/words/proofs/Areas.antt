@@ -7,11 +7,11 @@ use native.Mathlib.Nat.{mul-suc, mul-add, mul-one}
 use native.Mathlib.Omega.{arith}
 use lib.ListN.{length-set, length, take, drop, getD, set, length-append, length-drop, take-append-drop}
 use lib.Seq.{set-getD, length-take-le, drop-drop}
 use Rattle.words.specs.Bytes.{part, over, zeros, spell}
 use Rattle.words.specs.Table.{layAll, layWords, area, joined, insertAt, removeAt}
 use Rattle.words.proofs.Parts.{length-zeros, zeros-add, length-part, over-mid, part-mid, two, before}
 use Rattle.words.proofs.Tables.{put-word, length-insertAt, layAll-append, length-layAll, length-area, part-lay, set-area, insert-area, append-area, joined-cut, part-joined, over-joined}
-use Rattle.volume.proofs.Pieces.{unused-area}
+use Rattle.words.proofs.Pieces.{unused-area}
 
 -- so many rows, and so many more
 rows-add : (s a b : ℕ) → a ≤ b → s * b ≡ s * a + s * (b - a)

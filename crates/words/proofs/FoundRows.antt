@@ -1,19 +1,17 @@
--- Rows found by a test, a row put among them, and how often a number stands in a column of theirs. And bytes written over others, one by
--- one.
+-- Rows found by a test, a row put among them, and how often a number stands in a column of theirs.
 -- Assumes nothing.
-use mathlib.Core.Path.{_≡_, refl, sym, ap, _∙_}
+use mathlib.Core.Path.{_≡_, refl, sym, ap}
 use mathlib.Core.Bool.{Bool, true, false}
-use mathlib.Core.List.{List, [], _∷_, _++_, map}
+use mathlib.Core.List.{List, [], _∷_, map}
 use mathlib.Core.Option.{none, some, Option·none-ne-some}
-use Prim.Native.Nat.{ℕ, zero, suc, _+_, _-_, _≤_, _<_}
+use Prim.Native.Nat.{ℕ, zero, suc, _+_, _≤_, _<_}
+use native.Mathlib.Nat.{not-suc-le-zero, le-of-suc-le-suc}
 use native.Mathlib.Omega.{arith}
 use lib.Dec.{eqb}
-use lib.ListN.{length, getD, take, drop, List·getD-append}
-use lib.Seq.{getD-append-add, getD-take, getD-drop, length-take-le}
-use Rattle.words.specs.Bytes.{part, over}
+use lib.ListN.{length, getD}
 use Rattle.words.specs.Rule.{pick, bit, count}
 use Rattle.words.specs.Table.{Each, Asc, find, insertAt}
 use Rattle.words.proofs.Counting.{count-cons, bit-same}
 
 -- ---- what a search finds
 
@@ -83,6 +81,12 @@ module _ {R : Type 0} (f : R → ℕ) where
   count-insert q (suc p) r [] = count-cons q (f r) []
   count-insert q (suc p) r (s ∷ rs) = omega (arith, count-cons q (f s) (map f rs), count-cons q (f s) (map f (insertAt p r rs)), count-insert q p r rs)
 
+  -- the number of a row
+  pub counted : (d : R) (rs : List R) (i : ℕ) → i < length rs → 1 ≤ count (f (getD rs i d)) (map f rs)
+  counted d [] i h = absurd (not-suc-le-zero h)
+  counted d (r ∷ rs) zero h = omega (arith, count-cons (f r) (f r) (map f rs), bit-same (f r))
+  counted d (r ∷ rs) (suc i) h = omega (arith, count-cons (f (getD rs i d)) (f r) (map f rs), counted d rs i (le-of-suc-le-suc h))
+
   -- the number of a row that is found
   pub count-found : (t : R → Bool) (rs : List R) (r : R) → find t rs ≡ some r → 1 ≤ count (f r) (map f rs)
   unfolding find pick
@@ -110,15 +114,3 @@ module _ {R : Type 0} (f : R → ℕ) where
           let h : f x ≡ f r = cc in
           rw h (omega (arith, count-cons (f r) (f r) (map f rs), bit-same (f r), count-found t rs r m))
       go false ta false ub m n ih = omega (arith, ih m n q, count-cons (f r) (f x) (map f rs))
-
--- ---- bytes, one by one
-
-pub part-at : (l : List ℕ) (at n i : ℕ) → i < n → getD (part l at n) i 0 ≡ getD l (at + i) 0
-unfolding part
-part-at l at n i h = getD-take n (drop at l) i 0 h ∙ getD-drop at l i 0
-
-pub over-at : (l : List ℕ) (at : ℕ) (bs : List ℕ) (i : ℕ) → at ≤ length l → i < length bs → getD (over l at bs) (at + i) 0 ≡ getD bs i 0
-unfolding over
-over-at l at bs i h k =
-    let e : at + i ≡ length (take at l) + i = rw (length-take-le at l h) in
-    ap (λ (j : ℕ). getD (take at l ++ (bs ++ drop (at + length bs) l)) j 0) e ∙ getD-append-add (take at l) (bs ++ drop (at + length bs) l) i 0 ∙ List·getD-append bs (drop (at + length bs) l) 0 i k

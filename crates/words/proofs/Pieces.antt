@@ -5,13 +5,12 @@ use mathlib.Core.List.{List, [], _∷_, _++_, append-nil}
 use Prim.Native.Nat.{ℕ, zero, suc, _+_, _-_, _*_, _^_, _≤_, _<_}
 use native.Mathlib.Nat.{add-zero, mul-zero, mul-suc, mul-add, add-comm}
 use native.Mathlib.Omega.{arith}
-use lib.ListN.{length, take, drop, getD, set}
+use lib.ListN.{length, take, drop, getD}
 use Rattle.words.specs.Bytes.{part, zeros, spell, num, word, Bytes}
 use Rattle.words.specs.Table.{table, layAll, layWords, area, joined, Each}
 use Rattle.words.proofs.Parts.{part-add, part-zero, part-mid, length-zeros}
 use Rattle.words.proofs.Numbers.{num-mid, spell-num}
-use Rattle.words.proofs.Order.{each-append, each-take, each-drop}
 use Rattle.words.proofs.Tables.{joined-cut, length-table, length-layAll}
 
 -- ---- parts that meet
 
@@ -77,14 +76,3 @@ pub unused-area : {R : Type 0} (lay : R → List ℕ) (s : ℕ) (sized : (r : R)
 unfolding area
 unused-area lay s sized room rs =
     rw append-nil at (part-mid (layAll lay rs) (zeros (s * (room - length rs))) [] (s * length rs) (s * (room - length rs)) (length-layAll lay s sized rs) (length-zeros (s * (room - length rs))))
-
--- what holds of every row, after one was set
-pub each-set : {R : Type 0} (P : R → Type 0) (rs : List R) (i : ℕ) (r : R) → Each P rs → P r → Each P (set rs i r)
-unfolding Each
-each-set P [] i r h k = tt
-each-set P (q ∷ rs) zero r h k = (k, h .1)
-each-set P (q ∷ rs) (suc i) r h k = (h .0, each-set P rs i r (h .1) k)
-
--- what holds of every row, after n were taken out from p on
-pub each-rest : {R : Type 0} (P : R → Type 0) (p n : ℕ) (rs : List R) → Each P rs → Each P (take p rs ++ drop (p + n) rs)
-each-rest P p n rs h = each-append P (take p rs) (drop (p + n) rs) (each-take P p rs h) (each-drop P (p + n) rs h)

@@ -1,23 +1,24 @@
--- Bytes written into a part of others, a chunk filled, and how much room there is for new ones.
+-- Bytes written over all of a list or over a part of it, and each byte of what comes of it.
 -- Assumes nothing.
 use mathlib.Core.Path.{_≡_, refl, sym, ap, _∙_}
-use mathlib.Core.Bool.{Bool, true, false}
-use mathlib.Core.List.{List, _++_, append-assoc}
-use Prim.Native.Nat.{ℕ, _+_, _-_, _/_, min, _≤_, _<_}
-use native.Mathlib.Nat.{div-lt-iff-lt-mul}
+use mathlib.Core.List.{List, [], _++_, append-assoc, append-nil}
+use Prim.Native.Nat.{ℕ, _+_, _-_, _≤_, _<_}
 use native.Mathlib.Omega.{arith}
-use lib.Dec.{ltb}
-use lib.ListN.{length, take, drop, length-append}
-use lib.Seq.{length-take-le}
-use borrow.Author.Tests.{ltb-true, ltb-false, lt-ltb, le-ltb}
+use lib.ListN.{length, take, drop, getD, length-append, List·getD-append}
+use lib.Seq.{take-all, length-take-le, getD-append-add, getD-take, getD-drop}
 use Rattle.words.specs.Bytes.{part, over, zeros}
 use Rattle.words.proofs.Parts.{length-zeros, zeros-add, length-over, length-part, over-mid, over-in, cut, two}
-use Rattle.volume.specs.Volume.{Volume}
-use Rattle.chunks.specs.Store.{room, missing}
-use Rattle.chunks.specs.Write.{numOf, holes}
-use Rattle.chunks.proofs.Pieces.{over-all}
 
--- ---- bytes written into a part
+-- ---- all of a list
+
+pub over-all : (l bs : List ℕ) → length l ≡ length bs → over l 0 bs ≡ bs
+over-all l bs e = simp append-nil at (over-mid [] l [] bs 0 refl e)
+
+pub part-all : (l : List ℕ) (at n : ℕ) → at ≡ 0 → n ≡ length l → part l at n ≡ l
+unfolding part
+part-all l at n a e = rw (a, e) (take-all (length l) l (omega arith))
+
+-- ---- a part of it
 
 over-as : (l : List ℕ) (p : ℕ) (ys zs : List ℕ) → length ys ≡ length zs → over l p ys ≡ take p l ++ (ys ++ drop (p + length zs) l)
 unfolding over
@@ -42,8 +43,21 @@ part-written l at n i bs h k =
     let e = length-part l at n h in
     sym (over-within l at (part l at n) i bs (omega arith) (omega arith)) ∙ ap (λ (m : List ℕ). over m (at + i) bs) (over-part l at n h)
 
--- ---- a chunk filled: zeros, bytes, zeros
+-- the part of a list that is lent
+pub length-lent : (l : List ℕ) (at n : ℕ) → at + n ≤ length l → length (take (at + n - at) (drop at l)) ≡ n
+length-lent l at n h =
+    let w : at + n - at ≡ n = omega arith in
+    rw w (unfold part in length-part l at n h)
 
+-- ---- zeros
+
+pub zeros-within : (s i : ℕ) → i ≤ s → over (zeros s) i (zeros (s - i)) ≡ zeros s
+zeros-within s i h =
+    let m : s ≡ i + (s - i) = omega arith in
+    let e : zeros s ≡ zeros i ++ (zeros (s - i) ++ []) = ap zeros m ∙ sym (zeros-add i (s - i)) ∙ ap (λ (t : List ℕ). zeros i ++ t) (sym (append-nil (zeros (s - i)))) in
+    ap (λ (t : List ℕ). over t i (zeros (s - i))) e ∙ over-mid (zeros i) (zeros (s - i)) [] (zeros (s - i)) i (length-zeros i) refl ∙ sym e
+
+-- zeros, bytes and zeros written one behind the other
 pub filled : (l : List ℕ) (place : ℕ) (bs : List ℕ) → place + length bs ≤ length l → {a b c : List ℕ} → a ≡ over l 0 (zeros place) → b ≡ over a place bs
     → c ≡ over b (place + length bs) (zeros (length l - (place + length bs))) → c ≡ over (zeros (length l)) place bs
 filled l place bs h {a} {b} {c} ea eb ec =
@@ -66,29 +80,14 @@ filled l place bs h {a} {b} {c} ea eb ec =
         ap (λ (r : List ℕ). over r place bs) whole
         ∙ over-mid (zeros place) (zeros (length bs)) (zeros (length l - (place + length bs))) bs place (length-zeros place) (length-zeros (length bs))
 
--- ---- room
+-- ---- each byte
 
-pub room-is : (v : Volume) {c rows area next free s r : ℕ} → c ≡ v .chunkRoom → rows ≡ length (v .chunks) → area ≡ length (v .bytes) → next ≡ v .allocator .nextPtr → free ≡ v .allocator .freeCount → s ≡ v .allocator .chunkSize
-    → r ≡ min (c - rows) (free + (area - next) / s) → r ≡ room v
-unfolding room
-room-is v ec er ea en ef es h = h ∙ rw (ec, er, ea, en, ef, es)
+pub part-at : (l : List ℕ) (at n i : ℕ) → i < n → getD (part l at n) i 0 ≡ getD l (at + i) 0
+unfolding part
+part-at l at n i h = getD-take n (drop at l) i 0 h ∙ getD-drop at l i 0
 
--- room compared with holes
-pub cramped-is : (v : Volume) (n offset count : ℕ) {s t a b : ℕ} → s ≡ v .allocator .chunkSize → t ≡ numOf s offset count → a ≡ room v → b ≡ missing n t (offset / s) (v .chunks) → ltb a b ≡ ltb (room v) (holes n offset count v)
-unfolding holes
-cramped-is v n offset count es et ea eb = rw (ea, eb, et, es)
-
--- their number is no great one
-pub room-small : (area s free : ℕ) → area < 18446744073709551616 → 4096 ≤ s → free ≤ 4096 → free + area / s < 18446744073709551616
-room-small area s free h k f =
-    let pos : 0 < s = omega arith in
-    let q : area / s < 4503599627370496 = div-lt-iff-lt-mul pos .1 (omega arith) in
-    omega arith
-
--- a limit below the end of a write, without the end
-pub past-limit : (limit offset count : ℕ) → offset ≤ limit → ltb (limit - offset) count ≡ ltb limit (offset + count)
-past-limit limit offset count h = go (ltb (limit - offset) count) refl
-  where
-    go : (b : Bool) → ltb (limit - offset) count ≡ b → b ≡ ltb limit (offset + count)
-    go true e = sym (lt-ltb limit (offset + count) (omega (arith, ltb-true (limit - offset) count e)))
-    go false e = sym (le-ltb limit (offset + count) (omega (arith, ltb-false (limit - offset) count e)))
+pub over-at : (l : List ℕ) (at : ℕ) (bs : List ℕ) (i : ℕ) → at ≤ length l → i < length bs → getD (over l at bs) (at + i) 0 ≡ getD bs i 0
+unfolding over
+over-at l at bs i h k =
+    let e : at + i ≡ length (take at l) + i = rw (length-take-le at l h) in
+    ap (λ (j : ℕ). getD (take at l ++ (bs ++ drop (at + length bs) l)) j 0) e ∙ getD-append-add (take at l) (bs ++ drop (at + length bs) l) i 0 ∙ List·getD-append bs (drop (at + length bs) l) 0 i k
