@@ -1,0 +1,239 @@
+//! How long read and write take, as ratios: the proved calls with their check and without it, next to the Rust over its stand-ins and to plain
+//! copies of as many bytes. All four are given the same calls, and their answers and bytes are compared. docs/PERFORMANCE.md says what came of it.
+//!
+//! `files CHUNK_SIZE` prints rows of its table.
+
+#[allow(dead_code)] // of what the vectors need
+#[path = "../oracle/programs/vectors/generator.rs"]
+mod generator;
+mod sides;
+
+use generator::Generator;
+use oracle::{runtime::types::ChunkSize, volume::FILE_LIMIT};
+use sides::{Copies, Place, Proved, Rust, Side};
+
+const RUNS: usize = 5;
+const TURNS: usize = 9;
+
+/// Any, but the same every time.
+const SEED: u64 = 40;
+
+/// Lengths, and how many calls of them make a turn: both states have room for their chunks at every chunk size.
+const LENGTHS: [(&str, usize, usize); 2] = [("4 KiB", 4096, 128), ("1 MiB", 1 << 20, 6)];
+
+/// How many chunk rows the other file has.
+const FEW: u64 = 0;
+const MANY: u64 = 2048;
+
+/// The bytes of the next turn begin so much later: none is the same, and all are aligned alike.
+const STEP: usize = 64;
+
+#[derive(Clone, Copy, PartialEq)]
+enum Kind {
+    Read,
+    WriteOver,
+    WriteNew,
+}
+
+#[derive(Clone, Copy, PartialEq)]
+enum Order {
+    Sequential,
+    Random,
+}
+
+#[derive(Clone, Copy)]
+struct Form {
+    kind: Kind,
+    others: u64,
+    /// Of `LENGTHS`.
+    length: usize,
+    order: Order,
+}
+
+/// The least milliseconds of a turn with the check, of the worker, of the Rust and of copies.
+type Times = [f64; 4];
+
+fn main() {
+    let size: u64 = std::env::args().nth(1).and_then(|size| size.parse().ok()).expect("files CHUNK_SIZE");
+    let chunk = ChunkSize::VALUES.into_iter().find(|&value| value as u64 == size).expect("a chunk size");
+    let forms = forms();
+    let mut runs = vec![Vec::new(); forms.len()];
+    for _ in 0..RUNS {
+        let mut sides: [Box<dyn Side>; 4] = [
+            Box::new(Proved::checked(size)),
+            Box::new(Proved::worker(size)),
+            Box::new(Rust::new(chunk)),
+            Box::new(Copies::new(size)),
+        ];
+        for (form, times) in forms.iter().zip(&mut runs) {
+            times.push(measure(form, &mut sides));
+        }
+    }
+    show(size, &forms, &runs);
+}
+
+fn forms() -> Vec<Form> {
+    let mut forms = Vec::new();
+    for kind in [Kind::Read, Kind::WriteOver, Kind::WriteNew] {
+        for others in [FEW, MANY] {
+            for length in 0..LENGTHS.len() {
+                for order in [Order::Sequential, Order::Random] {
+                    forms.push(Form { kind, others, length, order });
+                }
+            }
+        }
+    }
+    forms
+}
+
+// ---- one form
+
+impl Form {
+    fn places(&self) -> Vec<Place> {
+        let (_, length, calls) = LENGTHS[self.length];
+        let mut generator = Generator::new(SEED);
+        let mut place = |i: usize| Place {
+            offset: match self.order {
+                Order::Sequential => (i * length) as u64,
+                Order::Random => generator.below(FILE_LIMIT - length as u64),
+            },
+            flat: i * length..(i + 1) * length,
+        };
+        (0..calls).map(&mut place).collect()
+    }
+
+    fn total(&self) -> usize {
+        let (_, length, calls) = LENGTHS[self.length];
+        length * calls
+    }
+
+    /// What a turn writes. Reads read what the first turn would.
+    fn bytes<'a>(&self, source: &'a [u8], turn: usize) -> &'a [u8] {
+        let start = if self.kind == Kind::Read { 0 } else { STEP * turn };
+        &source[start..start + self.total()]
+    }
+
+    fn name(&self) -> String {
+        let kind = match self.kind {
+            Kind::Read => "read",
+            Kind::WriteOver => "write over",
+            Kind::WriteNew => "write into holes",
+        };
+        let order = if self.order == Order::Sequential { "sequential" } else { "random" };
+        let rows = if self.others == FEW { "few" } else { "many" };
+        format!("{kind} | {} | {order} | {rows}", LENGTHS[self.length].0)
+    }
+}
+
+/// The least times of some turns, in which one side comes after the other.
+fn measure(form: &Form, sides: &mut [Box<dyn Side>; 4]) -> Times {
+    let places = form.places();
+    let source: Vec<u8> = (0..form.total() + STEP * TURNS).map(|i| (i * 7 % 251 + 1) as u8).collect();
+    let mut buffer = vec![0; form.total()];
+    let mut least = [f64::INFINITY; 4];
+    for side in sides.iter_mut() {
+        side.renew(form.others);
+        write_all(side.as_mut(), &places, form.bytes(&source, 0));
+    }
+    for turn in 0..TURNS {
+        let bytes = form.bytes(&source, turn);
+        for (side, least) in sides.iter_mut().zip(&mut least) {
+            *least = least.min(take_turn(form, side.as_mut(), &places, bytes, &mut buffer));
+        }
+    }
+    least
+}
+
+/// The milliseconds of a turn, whose bytes are compared.
+fn take_turn(form: &Form, side: &mut dyn Side, places: &[Place], bytes: &[u8], buffer: &mut [u8]) -> f64 {
+    if form.kind == Kind::WriteNew {
+        side.renew(form.others);
+    }
+    buffer.fill(0);
+    let start = milliseconds();
+    match form.kind {
+        Kind::Read => read_all(side, places, buffer),
+        _ => write_all(side, places, bytes),
+    }
+    let took = milliseconds() - start;
+    if form.kind != Kind::Read {
+        read_all(side, places, buffer);
+    }
+    assert!(buffer == bytes, "other bytes are read than were written");
+    took
+}
+
+fn write_all(side: &mut dyn Side, places: &[Place], bytes: &[u8]) {
+    for place in places {
+        let bytes = &bytes[place.flat.clone()];
+        assert_eq!(side.write(place, bytes), (0, bytes.len() as u64));
+    }
+}
+
+fn read_all(side: &mut dyn Side, places: &[Place], buffer: &mut [u8]) {
+    for place in places {
+        let buffer = &mut buffer[place.flat.clone()];
+        assert_eq!(side.read(place, buffer), (0, buffer.len() as u64));
+    }
+}
+
+// ---- the clock
+
+#[repr(C)]
+struct Time {
+    seconds: i64,
+    nanoseconds: i64,
+}
+
+const PROCESS_TIME: i32 = 2;
+
+unsafe extern "C" {
+    fn clock_gettime(clock: i32, time: *mut Time) -> i32;
+}
+
+/// Of the processor: what other programs take meanwhile is not counted.
+fn milliseconds() -> f64 {
+    let mut time = Time { seconds: 0, nanoseconds: 0 };
+    assert_eq!(unsafe { clock_gettime(PROCESS_TIME, &mut time) }, 0);
+    time.seconds as f64 * 1e3 + time.nanoseconds as f64 / 1e6
+}
+
+// ---- the table
+
+fn show(size: u64, forms: &[Form], runs: &[Vec<Times>]) {
+    println!("chunk size {size}; {RUNS} runs, least of {TURNS} turns\n");
+    println!("| call | bytes | offsets | rows | worker / memcpy | worker / Rust | with check / memcpy | with check / Rust | memcpy, µs |");
+    println!("|---|---|---|---|---|---|---|---|---|");
+    for (form, runs) in forms.iter().zip(runs) {
+        let ratio = |above: usize, below: usize| spread(runs.iter().map(|times| times[above] / times[below]));
+        let calls = LENGTHS[form.length].2 as f64;
+        let copy = median(runs.iter().map(|times| times[3] * 1e3 / calls));
+        println!("| {} | {} | {} | {} | {} | {} |", form.name(), ratio(1, 3), ratio(1, 2), ratio(0, 3), ratio(0, 2), short(copy));
+    }
+}
+
+fn sorted(numbers: impl Iterator<Item = f64>) -> Vec<f64> {
+    let mut numbers: Vec<f64> = numbers.collect();
+    numbers.sort_by(f64::total_cmp);
+    numbers
+}
+
+fn median(numbers: impl Iterator<Item = f64>) -> f64 {
+    let numbers = sorted(numbers);
+    numbers[numbers.len() / 2]
+}
+
+/// The median, the least and the greatest.
+fn spread(numbers: impl Iterator<Item = f64>) -> String {
+    let numbers = sorted(numbers);
+    let [least, middle, greatest] = [0, numbers.len() / 2, numbers.len() - 1].map(|i| short(numbers[i]));
+    format!("{middle} ({least} to {greatest})")
+}
+
+fn short(number: f64) -> String {
+    match number {
+        ..1.0 => format!("{number:.2}"),
+        ..10.0 => format!("{number:.1}"),
+        _ => format!("{number:.0}"),
+    }
+}
