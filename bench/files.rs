@@ -18,15 +18,32 @@ const TURNS: usize = 9;
 /// Any, but the same every time.
 const SEED: u64 = 40;
 
-/// Lengths, and how many calls of them make a turn: both states have room for their chunks at every chunk size.
-const LENGTHS: [(&str, usize, usize); 2] = [("4 KiB", 4096, 128), ("1 MiB", 1 << 20, 6)];
-
 /// How many chunk rows the other file has.
 const FEW: u64 = 0;
 const MANY: u64 = 2048;
 
 /// The bytes of the next turn begin so much later: none is the same, and all are aligned alike.
 const STEP: usize = 64;
+
+enum Order {
+    Sequential,
+    Random,
+}
+
+/// The calls of a turn. A volume has room for all their chunks at every chunk size, also with the other file's.
+struct Pattern {
+    name: &'static str,
+    length: usize,
+    calls: usize,
+    order: Order,
+}
+
+const PATTERNS: [Pattern; 4] = [
+    Pattern { name: "4 KiB | sequential", length: 4096, calls: 128, order: Order::Sequential },
+    Pattern { name: "4 KiB | random", length: 4096, calls: 128, order: Order::Random },
+    Pattern { name: "1 MiB | sequential", length: 1 << 20, calls: 6, order: Order::Sequential },
+    Pattern { name: "1 MiB | random", length: 1 << 20, calls: 6, order: Order::Random },
+];
 
 #[derive(Clone, Copy, PartialEq)]
 enum Kind {
@@ -35,22 +52,16 @@ enum Kind {
     WriteNew,
 }
 
-#[derive(Clone, Copy, PartialEq)]
-enum Order {
-    Sequential,
-    Random,
-}
-
-#[derive(Clone, Copy)]
 struct Form {
     kind: Kind,
     others: u64,
-    /// Of `LENGTHS`.
-    length: usize,
-    order: Order,
+    pattern: Pattern,
 }
 
-/// The least milliseconds of a turn with the check, of the worker, of the Rust and of copies.
+/// With the check, the worker alone, the Rust, plain copies.
+type Sides = [Box<dyn Side>; 4];
+
+/// The least milliseconds of a turn of each.
 type Times = [f64; 4];
 
 fn main() {
@@ -59,12 +70,8 @@ fn main() {
     let forms = forms();
     let mut runs = vec![Vec::new(); forms.len()];
     for _ in 0..RUNS {
-        let mut sides: [Box<dyn Side>; 4] = [
-            Box::new(Proved::checked(size)),
-            Box::new(Proved::worker(size)),
-            Box::new(Rust::new(chunk)),
-            Box::new(Copies::new(size)),
-        ];
+        let mut sides: Sides =
+            [Box::new(Proved::checked(size)), Box::new(Proved::worker(size)), Box::new(Rust::new(chunk)), Box::new(Copies::new(size))];
         for (form, times) in forms.iter().zip(&mut runs) {
             times.push(measure(form, &mut sides));
         }
@@ -76,11 +83,7 @@ fn forms() -> Vec<Form> {
     let mut forms = Vec::new();
     for kind in [Kind::Read, Kind::WriteOver, Kind::WriteNew] {
         for others in [FEW, MANY] {
-            for length in 0..LENGTHS.len() {
-                for order in [Order::Sequential, Order::Random] {
-                    forms.push(Form { kind, others, length, order });
-                }
-            }
+            forms.extend(PATTERNS.map(|pattern| Form { kind, others, pattern }));
         }
     }
     forms
@@ -89,22 +92,29 @@ fn forms() -> Vec<Form> {
 // ---- one form
 
 impl Form {
-    fn places(&self) -> Vec<Place> {
-        let (_, length, calls) = LENGTHS[self.length];
-        let mut generator = Generator::new(SEED);
-        let mut place = |i: usize| Place {
-            offset: match self.order {
-                Order::Sequential => (i * length) as u64,
-                Order::Random => generator.below(FILE_LIMIT - length as u64),
-            },
-            flat: i * length..(i + 1) * length,
+    fn name(&self) -> String {
+        let kind = match self.kind {
+            Kind::Read => "read",
+            Kind::WriteOver => "write over",
+            Kind::WriteNew => "write into holes",
         };
-        (0..calls).map(&mut place).collect()
+        let rows = if self.others == FEW { "few" } else { "many" };
+        format!("{kind} | {} | {rows}", self.pattern.name)
+    }
+
+    fn places(&self) -> Vec<Place> {
+        let length = self.pattern.length;
+        let mut generator = Generator::new(SEED);
+        let mut offset = |i: usize| match self.pattern.order {
+            Order::Sequential => (i * length) as u64,
+            Order::Random => generator.below(FILE_LIMIT - length as u64),
+        };
+        let place = |i: usize| Place { offset: offset(i), flat: i * length..(i + 1) * length };
+        (0..self.pattern.calls).map(place).collect()
     }
 
     fn total(&self) -> usize {
-        let (_, length, calls) = LENGTHS[self.length];
-        length * calls
+        self.pattern.length * self.pattern.calls
     }
 
     /// What a turn writes. Reads read what the first turn would.
@@ -112,21 +122,10 @@ impl Form {
         let start = if self.kind == Kind::Read { 0 } else { STEP * turn };
         &source[start..start + self.total()]
     }
-
-    fn name(&self) -> String {
-        let kind = match self.kind {
-            Kind::Read => "read",
-            Kind::WriteOver => "write over",
-            Kind::WriteNew => "write into holes",
-        };
-        let order = if self.order == Order::Sequential { "sequential" } else { "random" };
-        let rows = if self.others == FEW { "few" } else { "many" };
-        format!("{kind} | {} | {order} | {rows}", LENGTHS[self.length].0)
-    }
 }
 
 /// The least times of some turns, in which one side comes after the other.
-fn measure(form: &Form, sides: &mut [Box<dyn Side>; 4]) -> Times {
+fn measure(form: &Form, sides: &mut Sides) -> Times {
     let places = form.places();
     let source: Vec<u8> = (0..form.total() + STEP * TURNS).map(|i| (i * 7 % 251 + 1) as u8).collect();
     let mut buffer = vec![0; form.total()];
@@ -144,23 +143,29 @@ fn measure(form: &Form, sides: &mut [Box<dyn Side>; 4]) -> Times {
     least
 }
 
-/// The milliseconds of a turn, whose bytes are compared.
+/// The milliseconds of a turn, whose bytes are compared. The same calls come before it, so that every side finds what it touches in the
+/// caches; a volume made anew was written just now.
 fn take_turn(form: &Form, side: &mut dyn Side, places: &[Place], bytes: &[u8], buffer: &mut [u8]) -> f64 {
-    if form.kind == Kind::WriteNew {
-        side.renew(form.others);
+    match form.kind {
+        Kind::WriteNew => side.renew(form.others),
+        _ => carry_out(form, side, places, bytes, buffer),
     }
     buffer.fill(0);
     let start = milliseconds();
-    match form.kind {
-        Kind::Read => read_all(side, places, buffer),
-        _ => write_all(side, places, bytes),
-    }
+    carry_out(form, side, places, bytes, buffer);
     let took = milliseconds() - start;
     if form.kind != Kind::Read {
         read_all(side, places, buffer);
     }
     assert!(buffer == bytes, "other bytes are read than were written");
     took
+}
+
+fn carry_out(form: &Form, side: &mut dyn Side, places: &[Place], bytes: &[u8], buffer: &mut [u8]) {
+    match form.kind {
+        Kind::Read => read_all(side, places, buffer),
+        _ => write_all(side, places, bytes),
+    }
 }
 
 fn write_all(side: &mut dyn Side, places: &[Place], bytes: &[u8]) {
@@ -202,30 +207,19 @@ fn milliseconds() -> f64 {
 
 fn show(size: u64, forms: &[Form], runs: &[Vec<Times>]) {
     println!("chunk size {size}; {RUNS} runs, least of {TURNS} turns\n");
-    println!("| call | bytes | offsets | rows | worker / memcpy | worker / Rust | with check / memcpy | with check / Rust | memcpy, µs |");
+    println!("| call | bytes | offsets | rows | worker / memcpy | worker / Rust | with check / memcpy | with check / Rust | memcpy, µs a call |");
     println!("|---|---|---|---|---|---|---|---|---|");
     for (form, runs) in forms.iter().zip(runs) {
         let ratio = |above: usize, below: usize| spread(runs.iter().map(|times| times[above] / times[below]));
-        let calls = LENGTHS[form.length].2 as f64;
-        let copy = median(runs.iter().map(|times| times[3] * 1e3 / calls));
-        println!("| {} | {} | {} | {} | {} | {} |", form.name(), ratio(1, 3), ratio(1, 2), ratio(0, 3), ratio(0, 2), short(copy));
+        let copy = spread(runs.iter().map(|times| times[3] * 1e3 / form.pattern.calls as f64));
+        println!("| {} | {} | {} | {} | {} | {copy} |", form.name(), ratio(1, 3), ratio(1, 2), ratio(0, 3), ratio(0, 2));
     }
-}
-
-fn sorted(numbers: impl Iterator<Item = f64>) -> Vec<f64> {
-    let mut numbers: Vec<f64> = numbers.collect();
-    numbers.sort_by(f64::total_cmp);
-    numbers
-}
-
-fn median(numbers: impl Iterator<Item = f64>) -> f64 {
-    let numbers = sorted(numbers);
-    numbers[numbers.len() / 2]
 }
 
 /// The median, the least and the greatest.
 fn spread(numbers: impl Iterator<Item = f64>) -> String {
-    let numbers = sorted(numbers);
+    let mut numbers: Vec<f64> = numbers.collect();
+    numbers.sort_by(f64::total_cmp);
     let [least, middle, greatest] = [0, numbers.len() / 2, numbers.len() - 1].map(|i| short(numbers[i]));
     format!("{middle} ({least} to {greatest})")
 }

@@ -102,21 +102,16 @@ impl Proved {
         let number = unsafe { write(memory.as_mut_ptr(), memory.len(), node, offset, bytes.as_ptr(), bytes.len(), &mut count) };
         (number, count)
     }
-
-    fn ask_check(&self) -> u32 {
-        unsafe { lentilraft_check(self.memory.as_ptr(), self.memory.len()) }
-    }
 }
 
 impl Side for Proved {
     fn renew(&mut self, others: u64) {
         self.memory.fill(0);
         let (memory, length) = (self.memory.as_mut_ptr(), self.memory.len());
-        let made = unsafe { lentilraft_new_volume(memory, length, ROWS, ROWS, CHUNKS, self.chunk) };
-        assert_eq!(made, 0);
+        assert_eq!(unsafe { lentilraft_new_volume(memory, length, ROWS, ROWS, CHUNKS, self.chunk) }, 0);
         self.put_files();
         // what the calls without the check ask for; they keep it so
-        assert_eq!(self.ask_check(), 0);
+        assert_eq!(unsafe { lentilraft_check(self.memory.as_ptr(), length) }, 0);
         for index in 0..others {
             assert_eq!(self.ask_write(unchecked_write, OTHER, index * self.chunk, &[1]), (0, 1));
         }
