@@ -58,8 +58,13 @@ struct Form {
     pattern: Pattern,
 }
 
-/// With the check, the worker alone, the Rust, plain copies.
 type Sides = [Box<dyn Side>; 4];
+
+/// Where each stands.
+const CHECKED: usize = 0;
+const WORKER: usize = 1;
+const RUST: usize = 2;
+const COPIES: usize = 3;
 
 /// The least milliseconds of a turn of each.
 type Times = [f64; 4];
@@ -211,8 +216,9 @@ fn show(size: u64, forms: &[Form], runs: &[Vec<Times>]) {
     println!("|---|---|---|---|---|---|---|---|---|");
     for (form, runs) in forms.iter().zip(runs) {
         let ratio = |above: usize, below: usize| spread(runs.iter().map(|times| times[above] / times[below]));
-        let copy = spread(runs.iter().map(|times| times[3] * 1e3 / form.pattern.calls as f64));
-        println!("| {} | {} | {} | {} | {} | {copy} |", form.name(), ratio(1, 3), ratio(1, 2), ratio(0, 3), ratio(0, 2));
+        let copy = spread(runs.iter().map(|times| times[COPIES] * 1e3 / form.pattern.calls as f64));
+        let [worker, checked] = [WORKER, CHECKED].map(|side| format!("{} | {}", ratio(side, COPIES), ratio(side, RUST)));
+        println!("| {} | {worker} | {checked} | {copy} |", form.name());
     }
 }
 
@@ -224,10 +230,11 @@ fn spread(numbers: impl Iterator<Item = f64>) -> String {
     format!("{middle} ({least} to {greatest})")
 }
 
+/// Two digits, or all before the point.
 fn short(number: f64) -> String {
     match number {
-        ..1.0 => format!("{number:.2}"),
-        ..10.0 => format!("{number:.1}"),
+        ..0.995 => format!("{number:.2}"),
+        ..9.95 => format!("{number:.1}"),
         _ => format!("{number:.0}"),
     }
 }
