@@ -15,7 +15,7 @@ use crate::{
         },
     },
 };
-use ic_stable_structures::VectorMemory;
+use ic_stable_structures::{Memory, VectorMemory};
 use std::collections::BTreeMap;
 
 /// The scope's limit of a file without one; the Rust's own is 2^44 - 45,056.
@@ -31,6 +31,11 @@ impl Volume {
         let mut storage = StableStorage::new(VectorMemory::default());
         storage.set_chunk_size(chunk_size).expect("no chunk yet");
         Volume { storage }
+    }
+
+    /// Lets the chunks' memory have so many pages from the start, so that no write waits for them.
+    pub fn grow(&self, pages: u64) {
+        self.storage.v2_filechunk.v2_chunks.grow(pages);
     }
 
     // Level 3: the bytes of files.

@@ -1,0 +1,40 @@
+// Read and write without the check, for bench/ alone: they tell a call's own work from the check's. They ask of their caller that the volume
+// is sound, and nothing sees to it at a caller that is not proved. So they are no part of the interface (rim).
+ghost use mathlib.Core.Path.{_≡_};
+ghost use Rattle.types.specs.Answers.{number, value};
+ghost use Rattle.volume.specs.Sound.{Sound};
+ghost use Rattle.lentilraft.specs.Door.{read, write};
+
+#[no_mangle]
+pub extern "C" fn unchecked_read(
+    volume: &[u8],
+    node: u64,
+    offset: u64,
+    buffer: &mut [u8],
+    count: &mut u64,
+) -> u32
+    requires { ⌜ Sound (now volume) ⌝ }
+    ensures { λ r. ⌜ (r ≡ number (read node offset (now (volume .entry)) (now (buffer .entry)) .answer)) × (now (buffer .exit) ≡ read node offset (now (volume .entry)) (now (buffer .entry)) .bytes) × (now (count .exit) ≡ value (read node offset (now (volume .entry)) (now (buffer .entry)) .answer)) ⌝ }
+{
+    let layout = volume::read_layout(volume);
+    let answer = chunks::read(volume, layout, node, offset, buffer);
+    *count = types::value(answer);
+    types::number(answer)
+}
+
+#[no_mangle]
+pub extern "C" fn unchecked_write(
+    volume: &mut [u8],
+    node: u64,
+    offset: u64,
+    bytes: &[u8],
+    count: &mut u64,
+) -> u32
+    requires { ⌜ Sound (now volume) ⌝ }
+    ensures { λ r. ⌜ (r ≡ number (write node offset (now (bytes .entry)) (now (volume .entry)) .answer)) × (now (volume .exit) ≡ write node offset (now (bytes .entry)) (now (volume .entry)) .bytes) × (now (count .exit) ≡ value (write node offset (now (bytes .entry)) (now (volume .entry)) .answer)) ⌝ }
+{
+    let layout = volume::read_layout(volume);
+    let answer = chunks::write(volume, layout, node, offset, bytes);
+    *count = types::value(answer);
+    types::number(answer)
+}
