@@ -1,6 +1,6 @@
--- Indexes without a row, counted by two places in the chunk table: c indexes less the rows between the first and the last of them.
+-- Indexes without a row, counted from the rows: c indexes less the rows between the first and the last of them.
 -- Assumes nothing.
-use mathlib.Core.Path.{_≡_, refl, ap, _∙_}
+use mathlib.Core.Path.{_≡_, refl, sym, ap, _∙_}
 use mathlib.Core.Bool.{Bool, true, false}
 use mathlib.Core.List.{List}
 use mathlib.Core.Option.{Option, none, some}
@@ -8,17 +8,16 @@ use Prim.Native.Nat.{ℕ, zero, suc, _+_, _-_, _≤_}
 use native.Mathlib.Nat.{add-zero}
 use native.Mathlib.Omega.{arith}
 use lib.Dec.{ltb}
-use lib.ListN.{length}
+use lib.ListN.{length, drop}
 use Rattle.words.specs.Rule.{both}
 use Rattle.words.specs.Table.{Asc, lead}
+use Rattle.words.proofs.Search.{lead-from}
 use Rattle.volume.specs.declared.ChunkRow.{ChunkRow}
-use Rattle.volume.specs.Volume.{Volume}
 use Rattle.volume.specs.Search.{chunkUnder}
 use Rattle.volume.specs.Sound.{chunkBefore}
 use Rattle.tables.specs.Tables.{chunkAt, isChunk}
 use Rattle.chunks.specs.Content.{chunk}
 use Rattle.chunks.specs.Store.{hole, missing}
-use Rattle.chunks.specs.Write.{firstOf, numOf, holes}
 use Rattle.chunks.proofs.Cursor.{row-yes, row-no}
 
 pub hole-most : (o : Option ChunkRow) → hole o ≤ 1
@@ -54,12 +53,17 @@ module _ (n : ℕ) (cs : List ChunkRow) (asc : Asc chunkBefore cs) where
   pub missing-lead : (c k : ℕ) → missing n c k cs ≡ c - (lead (chunkUnder n (k + c)) cs - lead (chunkUnder n k) cs)
   missing-lead c k = omega (arith, missing-sum c k, missing-most n c k cs)
 
-  -- the rows between the two places are at most c, and the second place is not before the first
-  pub lead-span : (c k : ℕ) → (lead (chunkUnder n k) cs ≤ lead (chunkUnder n (k + c)) cs) × (lead (chunkUnder n (k + c)) cs ≤ lead (chunkUnder n k) cs + c)
-  lead-span c k = (omega (arith, missing-sum c k, missing-most n c k cs), omega (arith, missing-sum c k))
+  -- the second place is not before the first
+  lead-span : (c k : ℕ) → lead (chunkUnder n k) cs ≤ lead (chunkUnder n (k + c)) cs
+  lead-span c k = omega (arith, missing-sum c k, missing-most n c k cs)
 
--- the touched indexes without a row
-pub holes-lead : (n offset len : ℕ) (v : Volume) → Asc chunkBefore (v .chunks) → (first num : ℕ) → first ≡ firstOf (v .allocator .chunkSize) offset → num ≡ numOf (v .allocator .chunkSize) offset len
-    → holes n offset len v ≡ num - (lead (chunkUnder n (first + num)) (v .chunks) - lead (chunkUnder n first) (v .chunks))
-unfolding holes
-holes-lead n offset len v asc first num e f = rw (e, f) (missing-lead n (v .chunks) asc (numOf (v .allocator .chunkSize) offset len) (firstOf (v .allocator .chunkSize) offset))
+  -- so the rows between them are counted from the first on, and are at most c
+  module _ (c k : ℕ) {p m : ℕ} (e : p ≡ lead (chunkUnder n k) cs) (f : m ≡ lead (chunkUnder n (k + c)) (drop p cs)) where
+    rows-between : lead (chunkUnder n (k + c)) cs ≡ p + m
+    rows-between = lead-from (chunkUnder n (k + c)) cs p (omega (arith, lead-span c k)) ∙ ap (λ (z : ℕ). p + z) (sym f)
+
+    pub rows-most : m ≤ c
+    rows-most = omega (arith, rows-between, missing-sum c k)
+
+    pub holes-counted : c - m ≡ missing n c k cs
+    holes-counted = omega (arith, rows-between, missing-lead c k)

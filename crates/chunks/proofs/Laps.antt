@@ -72,7 +72,7 @@ module _ (l₀ : List ℕ) (y : Layout) (r : Ready l₀ y) (n offset : ℕ) (bs 
   abbrev v : Volume
   v = shown l₀
 
-  pub write-start : Stored v → 0 < length bs → holes n offset (length bs) v ≤ room v → {s first count row : ℕ} → s ≡ v .allocator .chunkSize → first ≡ offset / s → count ≡ numOf s offset (length bs) → row ≡ lead (chunkUnder n first) (v .chunks)
+  pub write-start : Stored v → 0 < length bs → holes n offset (length bs) v ≤ room v → {s first count row : ℕ} → s ≡ v .allocator .chunkSize → first ≡ offset / s → count ≡ numOf s offset (length bs) → row ≡ lead (chunkUnder n (offset / v .allocator .chunkSize)) (v .chunks)
       → WroteTo v y n offset bs first count row l₀ 0
   write-start st some-bytes enough {s} {first} {count} {row} es ef ec er =
       let w = written-writable v st n offset bs some-bytes enough in
@@ -82,7 +82,7 @@ module _ (l₀ : List ℕ) (y : Layout) (r : Ready l₀ y) (n offset : ℕ) (bs 
         bound = omega arith;
         ready = r;
         rest = rw (sub-zero, add-zero, f, c) w;
-        next = rw (add-zero row, add-zero first) er;
+        next = rw (add-zero row, add-zero first, f) er;
         all = rw (sub-zero, add-zero, f, c) (unfold written in refl);
       }
 

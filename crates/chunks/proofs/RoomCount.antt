@@ -18,9 +18,16 @@ unfolding room
 room-is v ec er ea en ef es h = h ∙ rw (ec, er, ea, en, ef, es)
 
 -- room compared with holes
-pub cramped-is : (v : Volume) (n offset count : ℕ) {s t a b : ℕ} → s ≡ v .allocator .chunkSize → t ≡ numOf s offset count → a ≡ room v → b ≡ missing n t (offset / s) (v .chunks) → ltb a b ≡ ltb (room v) (holes n offset count v)
-unfolding holes
-cramped-is v n offset count es et ea eb = rw (ea, eb, et, es)
+module _ (v : Volume) (n offset count : ℕ) {s t b : ℕ} (es : s ≡ v .allocator .chunkSize) (et : t ≡ numOf s offset count) (eb : b ≡ missing n t (offset / s) (v .chunks)) where
+  holes-are : b ≡ holes n offset count v
+  unfolding holes
+  holes-are = rw (eb, et, es)
+
+  pub cramped-none : b ≡ 0 → false ≡ ltb (room v) (holes n offset count v)
+  cramped-none z = sym (le-ltb (room v) (holes n offset count v) (omega (arith, holes-are)))
+
+  pub cramped-is : {a : ℕ} → a ≡ room v → ltb a b ≡ ltb (room v) (holes n offset count v)
+  cramped-is ea = rw (ea, holes-are)
 
 -- their number is no great one
 pub room-small : (area s free : ℕ) → area < 18446744073709551616 → 4096 ≤ s → free ≤ 4096 → free + area / s < 18446744073709551616

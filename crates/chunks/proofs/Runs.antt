@@ -9,19 +9,17 @@ use native.Mathlib.Nat.{zero-add, suc-add}
 use native.Mathlib.Omega.{arith}
 use native.Mathlib.Decide.{decLt}
 use lib.Dec.{eqb}
-use lib.ListN.{length, take, drop, length-drop, drop-of-length-le}
+use lib.ListN.{length, take, drop, length-drop}
 use lib.Seq.{length-take-le}
-use borrow.Author.Tests.{eq-eqb, ne-eqb, eqb-false}
+use borrow.Author.Tests.{ne-eqb, eqb-false}
 use Rattle.words.specs.Rule.{pick}
 use Rattle.words.specs.Table.{lead, leadOf, Each, Asc, Falls}
 use Rattle.words.proofs.Rules.{Says, holds, fails, says-true, true-says, says-eqb}
 use Rattle.words.proofs.Order.{each-map, asc-map}
-use Rattle.words.proofs.Search.{lead-le, asc-falls, from-more, from-stop}
+use Rattle.words.proofs.Search.{lead-le, asc-falls}
 use Rattle.volume.specs.declared.ChunkRow.{ChunkRow}
-use Rattle.volume.specs.Rows.{readChunk}
 use Rattle.volume.specs.Search.{chunkUnder}
 use Rattle.volume.specs.Sound.{chunkBefore}
-use Rattle.tables.specs.Tables.{chunkAt}
 use Rattle.tables.proofs.Finds.{PairBefore, says-pair, pair-falls}
 use Rattle.chunks.specs.Store.{only, goes}
 use Rattle.chunks.proofs.Only.{rest}
@@ -128,23 +126,3 @@ module _ (n c : ℕ) where
     -- and has as many rows as go
     pub run-length : length (only (goes n c) cs) ≡ k
     run-length = ap length run-goes ∙ length-take-le k (drop p cs) (omega (arith, run-ends, length-drop p cs))
-
--- ---- a walk along the rows of a file
-
--- from row first on; t is how many there are in all, i the row that the walk has come to
-module _ (n : ℕ) (cs : List ChunkRow) (first : ℕ) where
-  pub walk-start : lead (ofNode n) (drop first cs) ≡ first - first + lead (ofNode n) (drop first cs)
-  walk-start = omega arith
-
-  module _ (i : ℕ) {t : ℕ} (so-far : t ≡ i - first + lead (ofNode n) (drop i cs)) (l : first ≤ i) where
-    pub walk-turn : {r : ChunkRow} → i < length cs → r ≡ chunkAt cs i → r .node ≡ n → t ≡ i + 1 - first + lead (ofNode n) (drop (i + 1) cs)
-    walk-turn h q e = omega (arith, from-more (ofNode n) (readChunk []) cs i h (eq-eqb _ _ (ap (λ (z : ChunkRow). z .node) (sym q) ∙ e)))
-
-    pub walk-stop : {r : ChunkRow} → i < length cs → r ≡ chunkAt cs i → (r .node ≡ n → ⊥) → i - first ≡ t
-    walk-stop h q e = omega (arith, from-stop (ofNode n) (readChunk []) cs i h (ne-eqb _ _ (λ z. e (ap (λ (x : ChunkRow). x .node) q ∙ z))))
-
-    pub walk-end : length cs ≤ i → i - first ≡ t
-    walk-end h = omega (arith, none-left)
-      where
-        none-left : lead (ofNode n) (drop i cs) ≡ 0
-        none-left = unfold lead in rw (drop-of-length-le cs h)

@@ -3,11 +3,12 @@
 use mathlib.Core.Path.{_≡_, refl, sym, _∙_}
 use mathlib.Core.Bool.{Bool, true, false}
 use mathlib.Core.List.{List}
-use Prim.Native.Nat.{ℕ, _+_, max, _≤_, _<_}
+use Prim.Native.Nat.{ℕ, _+_, _/_, max, _≤_, _<_}
 use native.Mathlib.Omega.{arith}
 use lib.Dec.{ltb}
 use lib.ListN.{length, set}
 use borrow.Author.Tests.{eq-eqb, ne-eqb, ltb-false}
+use Rattle.words.specs.Table.{lead}
 use Rattle.words.proofs.Rules.{pick-true, pick-false}
 use Rattle.types.specs.Nodes.{fileLimit}
 use Rattle.types.specs.declared.Answer.the-variants.{Done, Refused}
@@ -16,6 +17,7 @@ use Rattle.types.specs.declared.Error.the-variants.{FileTooLarge, NoChunkRoom}
 use Rattle.types.specs.declared.NodeRecord.{NodeRecord}
 use Rattle.types.proofs.Bytes.{limit-most}
 use Rattle.volume.specs.declared.Layout.{Layout}
+use Rattle.volume.specs.Search.{chunkUnder}
 use Rattle.volume.specs.Framed.{NodeFits, Fits}
 use Rattle.volume.specs.Volume.{Volume, shown, laid, withNodes}
 use Rattle.volume.specs.Sound.{Good}
@@ -73,9 +75,16 @@ module _ (n offset : ℕ) (bs : List ℕ) (l : List ℕ) (y : Layout) (ready : R
       write-above e = meets (stays FileTooLarge v) _ (sym w) (rw (its .row) (pick-false _ _ _ _ (its .file) (pick-false _ _ _ _ (ne-eqb _ _ bytes) (pick-true _ _ _ _ (sym above ∙ e) refl))))
 
       module _ (s : c ≡ false) where
-        -- what `is_cramped` asks
-        pub room-asked : Ready l y × Stored v × (0 < length bs) × (offset + length bs ≤ 1099511627776)
-        room-asked = (ready, st, omega arith, omega (arith, ltb-false (fileLimit (d .limit)) (offset + length bs) (sym above ∙ s), limit-most (d .limit) (row-fits .limit)))
+        some-bytes : 0 < length bs
+        some-bytes = omega arith
+
+        pub end-most : offset + length bs ≤ 1099511627776
+        end-most = omega (arith, ltb-false (fileLimit (d .limit)) (offset + length bs) (sym above ∙ s), limit-most (d .limit) (row-fits .limit))
+
+        -- what `is_cramped` asks, of the row found for the first index
+        pub room-asked : {size first : ℕ} → size ≡ v .allocator .chunkSize → first ≡ lead (chunkUnder n (offset / size)) (v .chunks)
+            → Ready l y × Stored v × (0 < length bs) × (offset + length bs ≤ 1099511627776) × (first ≡ lead (chunkUnder n (offset / v .allocator .chunkSize)) (v .chunks))
+        room-asked es ef = (ready, st, some-bytes, end-most, ef ∙ rw es)
 
         module _ {a : Bool} (m : a ≡ ltb (room v) (holes n offset (length bs) v)) where
           -- 6
@@ -90,13 +99,14 @@ module _ (n offset : ℕ) (bs : List ℕ) (l : List ℕ) (y : Layout) (ready : R
             enough = omega (arith, ltb-false (room v) (holes n offset (length bs) v) (sym m ∙ z))
 
             -- what `write_chunks_v2` asks
-            pub chunks-asked : Ready l y × Stored v × (0 < length bs) × (offset + length bs ≤ 1099511627776) × (holes n offset (length bs) v ≤ room v)
-            chunks-asked = (ready, st, room-asked .2, room-asked .3, enough)
+            pub chunks-asked : {size first : ℕ} → size ≡ v .allocator .chunkSize → first ≡ lead (chunkUnder n (offset / size)) (v .chunks)
+                → Ready l y × Stored v × (0 < length bs) × (offset + length bs ≤ 1099511627776) × (holes n offset (length bs) v ≤ room v) × (first ≡ lead (chunkUnder n (offset / v .allocator .chunkSize)) (v .chunks))
+            chunks-asked es ef = (ready, st, some-bytes, end-most, enough, ef ∙ rw es)
 
             -- behind it
             module _ {j : List ℕ} (e : j ≡ laid (written n offset bs v)) where
               fits : Fits (written n offset bs v)
-              fits = fits-written v st n offset bs (room-asked .2) enough (ready .formed .fits) (rw (its .number) at (row-fits .node)) (omega (arith, room-asked .3))
+              fits = fits-written v st n offset bs some-bytes enough (ready .formed .fits) (rw (its .number) at (row-fits .node)) (omega (arith, end-most))
 
               shown-written : shown j ≡ written n offset bs v
               shown-written = shown-as (written n offset bs v) fits e

@@ -1,10 +1,13 @@
 // Rows of the chunk table.
 use volume::Layout;
 ghost use mathlib.Core.Path.{_≡_};
-ghost use lib.ListN.{length};
+ghost use Prim.Native.Nat.{_≤_};
+ghost use lib.ListN.{length, drop};
 ghost use lib.Dec.{ltb};
 ghost use Rattle.words.specs.Rule.{both};
+ghost use Rattle.words.specs.Table.{lead};
 ghost use Rattle.volume.specs.Volume.{shown};
+ghost use Rattle.volume.specs.Search.{chunkUnder};
 ghost use Rattle.tables.specs.Tables.{Ready, chunkAt, isChunk};
 
 // Whether a row of the chunk table is there and is the row of a node's chunk.
@@ -20,4 +23,21 @@ pub fn is_row(volume: &[u8], layout: Layout, row: usize, node: u64, index: u64) 
         return false;
     }
     chunk.index == index
+}
+
+// How many rows, from row first on, come before the row of a node's chunk.
+pub fn rows_before(volume: &[u8], layout: Layout, node: u64, index: u64, first: usize) -> usize
+    requires { ⌜ Ready (now volume) layout × (first ≤ length (shown (now volume) .chunks)) ⌝ }
+    ensures { λ r. ⌜ r ≡ lead (chunkUnder node index) (drop first (shown (now (volume .entry)) .chunks)) ⌝ }
+{
+    let used = tables::chunks_used(volume, layout);
+    let mut i = first;
+    while i < used {
+        let row = tables::chunk_row(volume, layout, i);
+        if !volume::pair_before(row.node, row.index, node, index) {
+            return i - first;
+        }
+        i += 1;
+    }
+    i - first
 }

@@ -2,6 +2,7 @@
 use crate::files::FileRow;
 use crate::files::find_file;
 use crate::rows::is_row;
+use crate::rows::rows_before;
 use types::Answer;
 use types::Error;
 use volume::ChunkRow;
@@ -70,14 +71,12 @@ pub fn count_room(volume: &[u8], layout: Layout) -> u64
     lesser(rows, chunks)
 }
 
-// How many of so many indexes of a node, from index first on, have no row: counted from the rows.
-fn count_holes(volume: &[u8], layout: Layout, node: u64, first: u64, count: u64) -> u64
-    requires { ⌜ Ready (now volume) layout × Asc chunkBefore (shown (now volume) .chunks) × (first + count < 18446744073709551616) ⌝ }
+// How many of so many indexes of a node, from index first on, have no row: counted from the rows, of which the row given is the first.
+fn count_holes(volume: &[u8], layout: Layout, node: u64, first: u64, count: u64, row: usize) -> u64
+    requires { ⌜ Ready (now volume) layout × Asc chunkBefore (shown (now volume) .chunks) × (first + count < 18446744073709551616) × (row ≡ lead (chunkUnder node first) (shown (now volume) .chunks)) ⌝ }
     ensures { λ r. ⌜ r ≡ missing node count first (shown (now (volume .entry)) .chunks) ⌝ }
 {
-    let low = tables::first_chunk(volume, layout, node, first);
-    let high = tables::first_chunk(volume, layout, node, first + count);
-    count - (high - low) as u64
+    count - rows_before(volume, layout, node, first + count, row) as u64
 }
 
 // How many chunks so many bytes at an offset touch.
@@ -88,14 +87,18 @@ fn chunks_touched(offset: u64, count: u64, size: u64) -> u64
     (offset + count - 1) / size + 1 - offset / size
 }
 
-// Whether the touched indexes without a row outnumber the chunks that can be taken.
-fn is_cramped(volume: &[u8], layout: Layout, node: u64, offset: u64, count: u64) -> bool
-    requires { ⌜ Ready (now volume) layout × Stored (shown (now volume)) × (0 < count) × (offset + count ≤ 1099511627776) ⌝ }
+// Whether the touched indexes without a row outnumber the chunks that can be taken. The row given is the first of the touched ones.
+fn is_cramped(volume: &[u8], layout: Layout, node: u64, offset: u64, count: u64, row: usize) -> bool
+    requires { ⌜ Ready (now volume) layout × Stored (shown (now volume)) × (0 < count) × (offset + count ≤ 1099511627776) × (row ≡ lead (chunkUnder node (offset / shown (now volume) .allocator .chunkSize)) (shown (now volume) .chunks)) ⌝ }
     ensures { λ r. ⌜ r ≡ ltb (room (shown (now (volume .entry)))) (holes node offset count (shown (now (volume .entry)))) ⌝ }
 {
     let size = tables::chunk_size(volume, layout);
     let touched = chunks_touched(offset, count, size);
-    count_room(volume, layout) < count_holes(volume, layout, node, offset / size, touched)
+    let holes = count_holes(volume, layout, node, offset / size, touched, row);
+    if holes == 0 {
+        return false;
+    }
+    count_room(volume, layout) < holes
 }
 
 fn piece_of(offset: u64, count: u64, index: u64, size: u64) -> Piece
@@ -205,15 +208,21 @@ fn write_chunk(
     );
 }
 
-// Writes all chunks that bytes at an offset touch.
-fn write_chunks_v2(volume: &mut [u8], layout: Layout, node: u64, offset: u64, bytes: &[u8])
-    requires { ⌜ Ready (now volume) layout × Stored (shown (now volume)) × (0 < length (now bytes)) × (offset + length (now bytes) ≤ 1099511627776) × (holes node offset (length (now bytes)) (shown (now volume)) ≤ room (shown (now volume))) ⌝ }
+// Writes all chunks that bytes at an offset touch. The first one's row is, or is put, at the row given.
+fn write_chunks_v2(
+    volume: &mut [u8],
+    layout: Layout,
+    node: u64,
+    offset: u64,
+    bytes: &[u8],
+    row: usize,
+)
+    requires { ⌜ Ready (now volume) layout × Stored (shown (now volume)) × (0 < length (now bytes)) × (offset + length (now bytes) ≤ 1099511627776) × (holes node offset (length (now bytes)) (shown (now volume)) ≤ room (shown (now volume))) × (row ≡ lead (chunkUnder node (offset / shown (now volume) .allocator .chunkSize)) (shown (now volume) .chunks)) ⌝ }
     ensures { λ _. ⌜ now (volume .exit) ≡ laid (written node offset (now (bytes .entry)) (shown (now (volume .entry)))) ⌝ }
 {
     let size = tables::chunk_size(volume, layout);
     let first = offset / size;
     let count = chunks_touched(offset, bytes.len() as u64, size);
-    let row = tables::first_chunk(volume, layout, node, first);
     let mut i = 0;
     while i < count {
         write_chunk(
@@ -247,10 +256,12 @@ pub fn write(volume: &mut [u8], layout: Layout, node: u64, offset: u64, bytes: &
     if exceeds(types::file_limit(limit), offset, count) {
         return Answer::Refused(Error::FileTooLarge);
     }
-    if is_cramped(volume, layout, node, offset, count) {
+    let size = tables::chunk_size(volume, layout);
+    let first = tables::first_chunk(volume, layout, node, offset / size);
+    if is_cramped(volume, layout, node, offset, count, first) {
         return Answer::Refused(Error::NoChunkRoom);
     }
-    write_chunks_v2(volume, layout, node, offset, bytes);
+    write_chunks_v2(volume, layout, node, offset, bytes, first);
     let end = offset + count;
     tables::set_size(volume, layout, i, greater(row.size, end));
     Answer::Done(count)

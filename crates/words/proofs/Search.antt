@@ -9,7 +9,7 @@ use native.Mathlib.Numerals.{add-one, one-add, sub-one}
 use native.Mathlib.Omega.{arith}
 use mathlib.Core.Option.{none, some}
 use lib.Dec.{eqb}
-use lib.ListN.{length, drop, getD}
+use lib.ListN.{length, drop, getD, drop-of-length-le}
 use lib.Seq.{drop-cons}
 use borrow.Author.Tests.{ne-eqb}
 use Rattle.words.specs.Bytes.{part}
@@ -203,3 +203,32 @@ lead-insert f r (s ∷ rs) e = go (f s) refl (lead-insert f r rs e)
     go : (b : Bool) → f s ≡ b → lead f (insertAt (lead f rs) r rs) ≡ lead f rs → lead f (insertAt (leadOf b (lead f rs)) r (s ∷ rs)) ≡ leadOf b (lead f rs)
     go true q h = rw q (ap suc h)
     go false q h = rw e
+
+-- those that lead are counted from any of them on
+pub lead-from : {R : Type 0} (f : R → Bool) (rs : List R) (p : ℕ) → p ≤ lead f rs → lead f rs ≡ p + lead f (drop p rs)
+unfolding lead leadOf
+lead-from f rs zero h = sym (zero-add (lead f rs))
+lead-from f [] (suc p) h = absurd (not-suc-le-zero h)
+lead-from f (r ∷ rs) (suc p) h = go (f r) h (lead-from f rs p)
+  where
+    go : (t : Bool) → suc p ≤ leadOf t (lead f rs) → (p ≤ lead f rs → lead f rs ≡ p + lead f (drop p rs)) → leadOf t (lead f rs) ≡ suc p + lead f (drop p rs)
+    go true k i = omega (arith, i (le-of-suc-le-suc k))
+    go false k i = absurd (not-suc-le-zero k)
+
+-- a walk along the rows from row first on; t is how many lead in all, i the row that the walk has come to
+module _ {R : Type 0} (f : R → Bool) (d : R) (rs : List R) (first : ℕ) where
+  pub walk-start : lead f (drop first rs) ≡ first - first + lead f (drop first rs)
+  walk-start = omega arith
+
+  module _ (i : ℕ) {t : ℕ} (so-far : t ≡ i - first + lead f (drop i rs)) (l : first ≤ i) where
+    pub walk-turn : {r : R} → i < length rs → r ≡ getD rs i d → f r ≡ true → t ≡ i + 1 - first + lead f (drop (i + 1) rs)
+    walk-turn h q e = omega (arith, from-more f d rs i h (ap f (sym q) ∙ e))
+
+    pub walk-stop : {r : R} → i < length rs → r ≡ getD rs i d → f r ≡ false → i - first ≡ t
+    walk-stop h q e = omega (arith, from-stop f d rs i h (ap f (sym q) ∙ e))
+
+    pub walk-end : length rs ≤ i → i - first ≡ t
+    walk-end h = omega (arith, none-left)
+      where
+        none-left : lead f (drop i rs) ≡ 0
+        none-left = unfold lead in rw (drop-of-length-le rs h)

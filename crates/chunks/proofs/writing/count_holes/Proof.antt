@@ -1,39 +1,27 @@
 use borrow.Author.Needs.{needs}
 use Rattle.chunks.proofs.writing.count_holes.Statement.{statement}
 use Rattle.chunks.proofs.writing.count_holes.Tie as tie
+use Rattle.words.proofs.Search.{lead-le}
+use Rattle.volume.specs.Search.{chunkUnder}
 use denote.Ref.{now}
 use native.Mathlib.Omega.{arith}
 use Rattle.volume.specs.Volume.{shown}
-use Rattle.chunks.proofs.HoleCount.{missing-lead, lead-span}
+use Rattle.chunks.proofs.HoleCount.{rows-most, holes-counted}
 
-first-chunk-requires : tie.Need-first-chunk-requires
-first-chunk-requires c κs = search needs
+add-rows-before : tie.Need-add-rows-before
+add-rows-before c = search needs
 
-add-first-chunk : tie.Need-add-first-chunk
-add-first-chunk c = search needs
-
-first-chunk-requires-2 : tie.Need-first-chunk-requires-2
-first-chunk-requires-2 c κs = search needs
+rows-before-requires : tie.Need-rows-before-requires
+rows-before-requires c κs =
+    (c .before .pre .0, omega (arith, c .before .pre .3, lead-le (chunkUnder (c .before .args .node) (c .before .args .first)) (shown (now (c .before .args .volume)) .chunks)))
 
 sub-result : tie.Need-sub-result
 sub-result c =
-    omega (arith, c .before .first-chunk .ensures, c .first-chunk2 .ensures, (lead-span (c .before .before .before .args .node) (shown (now (c .before .before .before .args .volume)) .chunks) (c .before .before .before .pre .1) (c .before .before .before .args .count) (c .before .before .before .args .first)))
-
-sub-result-2 : tie.Need-sub-result-2
-sub-result-2 c =
-    omega (arith, c .before .first-chunk .ensures, c .first-chunk2 .ensures, (lead-span (c .before .before .before .args .node) (shown (now (c .before .before .before .args .volume)) .chunks) (c .before .before .before .pre .1) (c .before .before .before .args .count) (c .before .before .before .args .first)))
+    rows-most (c .before .before .args .node) (shown (now (c .before .before .args .volume)) .chunks) (c .before .before .pre .1) (c .before .before .args .count) (c .before .before .args .first) (c .before .before .pre .3) (c .rows-before .ensures)
 
 returns : tie.Need-returns
 returns c =
-    omega (arith, c .before .first-chunk .ensures, c .first-chunk2 .ensures, missing-lead (c .before .before .before .args .node) (shown (now (c .before .before .before .args .volume)) .chunks) (c .before .before .before .pre .1) (c .before .before .before .args .count) (c .before .before .before .args .first))
+    holes-counted (c .before .before .args .node) (shown (now (c .before .before .args .volume)) .chunks) (c .before .before .pre .1) (c .before .before .args .count) (c .before .before .args .first) (c .before .before .pre .3) (c .rows-before .ensures)
 
 pub count-holes-spec : {M : Type 1} → statement M
-count-holes-spec =
-    tie.close
-    (tie.spec
-    first-chunk-requires
-    add-first-chunk
-    first-chunk-requires-2
-    sub-result
-    sub-result-2
-    returns)
+count-holes-spec = tie.close (tie.spec add-rows-before rows-before-requires sub-result returns)

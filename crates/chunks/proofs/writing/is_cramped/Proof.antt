@@ -1,9 +1,14 @@
 use borrow.Author.Needs.{needs}
 use Rattle.chunks.proofs.writing.is_cramped.Statement.{statement}
 use Rattle.chunks.proofs.writing.is_cramped.Tie as tie
+use Prim.Native.Nat.{ℕ, _/_}
+use native.Mathlib.Omega.{arith}
+use Rattle.words.specs.Table.{lead}
+use Rattle.volume.specs.Search.{chunkUnder}
 use denote.Ref.{now}
 use Rattle.volume.specs.Volume.{shown}
-use Rattle.chunks.proofs.RoomCount.{cramped-is}
+use mathlib.Core.Path.{sym, ap, _∙_}
+use Rattle.chunks.proofs.RoomCount.{cramped-none, cramped-is}
 
 chunk-size-requires : tie.Need-chunk-size-requires
 chunk-size-requires c κs = search needs
@@ -11,18 +16,23 @@ chunk-size-requires c κs = search needs
 chunks-touched-requires : tie.Need-chunks-touched-requires
 chunks-touched-requires c κs = search needs
 
-count-room-requires : tie.Need-count-room-requires
-count-room-requires c κs = search needs
-
 div-count-holes : tie.Need-div-count-holes
 div-count-holes c = search needs
 
 count-holes-requires : tie.Need-count-holes-requires
-count-holes-requires c κs = search needs
+count-holes-requires c κs =
+    (c .before .before .before .pre .0, c .before .before .before .pre .1 .order, omega (arith, c .chunks-touched .ensures .1), c .before .before .before .pre .4 ∙ ap (λ (z : ℕ). lead (chunkUnder (c .before .before .before .args .node) (c .before .before .before .args .offset / z)) (shown (now (c .before .before .before .args .volume)) .chunks)) (sym (c .before .chunk-size .ensures .0)))
 
 returns : tie.Need-returns
 returns c =
-    cramped-is (shown (now (c .before .before .before .before .before .args .volume))) (c .before .before .before .before .before .args .node) (c .before .before .before .before .before .args .offset) (c .before .before .before .before .before .args .count) (c .before .before .before .chunk-size .ensures .0) (c .before .before .chunks-touched .ensures .0) (c .before .count-room .ensures) (c .count-holes .ensures)
+    cramped-none (shown (now (c .before .before .before .before .before .args .volume))) (c .before .before .before .before .before .args .node) (c .before .before .before .before .before .args .offset) (c .before .before .before .before .before .args .count) (c .before .before .before .chunk-size .ensures .0) (c .before .before .chunks-touched .ensures .0) (c .before .count-holes .ensures) (c .if1 .taken)
+
+count-room-requires : tie.Need-count-room-requires
+count-room-requires c κs = search needs
+
+returns-2 : tie.Need-returns-2
+returns-2 c =
+    cramped-is (shown (now (c .before .before .before .before .before .before .args .volume))) (c .before .before .before .before .before .before .args .node) (c .before .before .before .before .before .before .args .offset) (c .before .before .before .before .before .before .args .count) (c .before .before .before .before .chunk-size .ensures .0) (c .before .before .before .chunks-touched .ensures .0) (c .before .before .count-holes .ensures) (c .count-room .ensures)
 
 pub is-cramped-spec : {M : Type 1} → statement M
 is-cramped-spec =
@@ -30,7 +40,8 @@ is-cramped-spec =
     (tie.spec
     chunk-size-requires
     chunks-touched-requires
-    count-room-requires
     div-count-holes
     count-holes-requires
-    returns)
+    returns
+    count-room-requires
+    returns-2)
