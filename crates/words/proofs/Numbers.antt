@@ -9,7 +9,7 @@ use native.Mathlib.Decide.{decLt}
 use lib.ListN.{length, take, drop, getD, length-take, length-drop, List·getD-eq-default}
 use lib.Seq.{getD-take, getD-drop, drop-cons}
 use Rattle.words.specs.Bytes.{part, over, value, spell, num, Bytes}
-use Rattle.words.proofs.Parts.{length-part, length-over, part-add, part-mid, part-in, part-over-same, part-over-before, part-over-after, two, part-part}
+use Rattle.words.proofs.Parts.{length-part, length-over, part-add, part-mid, part-over-before, part-over-after, two, part-part}
 
 pub value-append : (a b : List ℕ) → value (a ++ b) ≡ value a + 256 ^ length a * value b
 unfolding value
@@ -39,17 +39,9 @@ pub num-one : (l : List ℕ) (at : ℕ) → at < length l → num 1 l at ≡ get
 unfolding num part value
 num-one l at h = rw (drop-cons l at 0 h) (omega arith)
 
-pub num-in : (n : ℕ) (A B C : List ℕ) (at i : ℕ) → at ≡ length A + i → i + n ≤ length B → num n (A ++ (B ++ C)) at ≡ num n B i
-unfolding num
-num-in n A B C at i ha hb = ap value (part-in A B C at i n ha hb)
-
 pub num-mid : (n : ℕ) (A C : List ℕ) (at x : ℕ) → length A ≡ at → x < 256 ^ n → num n (A ++ (spell n x ++ C)) at ≡ x
 unfolding num
 num-mid n A C at x ha hx = ap value (part-mid A (spell n x) C at n ha (length-spell n x)) ∙ value-spell n x hx
-
-pub num-over-same : (n : ℕ) (l : List ℕ) (at x : ℕ) → at ≤ length l → x < 256 ^ n → num n (over l at (spell n x)) at ≡ x
-unfolding num
-num-over-same n l at x h hx = ap value (part-over-same l at (spell n x) n h (length-spell n x)) ∙ value-spell n x hx
 
 pub num-over-before : (n : ℕ) (l : List ℕ) (at : ℕ) (bs : List ℕ) (i : ℕ) → at ≤ length l → i + n ≤ at → num n (over l at bs) i ≡ num n l i
 unfolding num

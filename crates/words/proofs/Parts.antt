@@ -2,7 +2,7 @@
 -- Assumes nothing.
 use mathlib.Core.Path.{_≡_, refl, sym, ap, _∙_, subst}
 use mathlib.Core.List.{List, [], _∷_, _++_, append-assoc}
-use Prim.Native.Nat.{ℕ, zero, suc, min, _+_, _-_, _≤_, _<_}
+use Prim.Native.Nat.{ℕ, zero, suc, _+_, _-_, _≤_, _<_}
 use native.Mathlib.Nat.{add-zero, add-assoc, sub-self, sub-zero, zero-sub, suc-sub-suc}
 use native.Mathlib.Numerals.{add-one}
 use native.Mathlib.Omega.{arith}
@@ -115,10 +115,6 @@ over-in A B C at i bs ha hb =
 
 -- ---- parts of what was written over
 
-pub part-over-same : (l : List ℕ) (at : ℕ) (bs : List ℕ) (n : ℕ) → at ≤ length l → length bs ≡ n → part (over l at bs) at n ≡ bs
-unfolding over
-part-over-same l at bs n h e = part-mid (take at l) bs (drop (at + length bs) l) at n (length-take-le at l h) e
-
 pub part-over-before : (l : List ℕ) (at : ℕ) (bs : List ℕ) (i n : ℕ) → at ≤ length l → i + n ≤ at → part (over l at bs) i n ≡ part l i n
 unfolding over
 part-over-before l at bs i n h e =
@@ -198,10 +194,6 @@ part-part l at m i n h =
 pub part-zero : (l : List ℕ) (at : ℕ) → part l at 0 ≡ []
 unfolding part
 part-zero l at = refl
-
-pub length-part-min : (l : List ℕ) (at n : ℕ) → length (part l at n) ≡ min n (length l - at)
-unfolding part
-length-part-min l at n = simp (length-take, length-drop)
 
 -- what a loan of the n bytes from index at leaves, where the callee says what they became
 pub lent-at : (l : List ℕ) (at n : ℕ) (ys bs : List ℕ) → ys ≡ bs → length bs ≡ n → take at l ++ (ys ++ drop (at + n - at) (drop at l)) ≡ over l at bs

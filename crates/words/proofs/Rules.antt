@@ -12,7 +12,7 @@ use native.Mathlib.Decide.{decLt}
 use lib.Dec.{eqb, ltb, leb}
 use borrow.Author.Tests.{eqb-true, eqb-false, ltb-true, ltb-false, leb-true, leb-false, eq-eqb, ne-eqb, le-leb, lt-leb, not-true, not-false}
 use lib.ListN.{length, getD}
-use Rattle.words.specs.Rule.{pick, both, either, upto, apart, bit, tally, times}
+use Rattle.words.specs.Rule.{pick, both, either, upto, bit, tally, times}
 use Rattle.words.proofs.Joined.{both-false}
 use Rattle.words.proofs.Counting.{bit-most}
 
@@ -251,16 +251,9 @@ is-no2 e f h = rw (← e, ← f) (ne-eqb _ _ h)
 pub add2 : {x y a b : ℕ} → x ≡ y → a ≡ b → x + a ≡ y + b
 add2 e f = omega arith
 
-pub says-apart : (P : ℕ → ℕ → Type 0) (f : ℕ → ℕ → Bool) (n : ℕ) → ((j i : ℕ) → j < i → i < n → Says (P j i) (f j i)) → Says ((i : ℕ) → i < n → (j : ℕ) → j < i → P j i → ⊥) (apart n f)
-unfolding apart
-says-apart P f n h = says-upto (λ i. (j : ℕ) → j < i → P j i → ⊥) _ n (λ i b. says-upto (λ j. P j i → ⊥) _ i (λ j c. says-not (h j i c b)))
-
 -- `if f(..) { return false; }`
 pub hit-no : {r a : Bool} → r ≡ a → r ≡ true → not a ≡ false
 hit-no e h = rw (← e, h)
 
 pub hit-yes : {r a : Bool} → r ≡ a → r ≡ false → not a ≡ true
 hit-yes e h = rw (← e, h)
-
-pub eqb2 : {x y a b : ℕ} → x ≡ y → a ≡ b → eqb x a ≡ eqb y b
-eqb2 e f = rw (e, f)

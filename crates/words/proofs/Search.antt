@@ -4,8 +4,8 @@ use mathlib.Core.Path.{_≡_, refl, sym, ap, _∙_}
 use mathlib.Core.Bool.{Bool, true, false, not, false≢true}
 use mathlib.Core.List.{List, [], _∷_}
 use Prim.Native.Nat.{ℕ, zero, suc, _+_, _-_, _*_, _/_, _≤_, _<_}
-use native.Mathlib.Nat.{zero-add, sub-self, sub-zero, not-suc-le-zero, le-of-suc-le-suc}
-use native.Mathlib.Numerals.{add-one, one-add, sub-one}
+use native.Mathlib.Nat.{zero-add, not-suc-le-zero, le-of-suc-le-suc}
+use native.Mathlib.Numerals.{add-one, one-add}
 use native.Mathlib.Omega.{arith}
 use mathlib.Core.Option.{none, some}
 use lib.Dec.{eqb}
@@ -17,37 +17,6 @@ use Rattle.words.specs.Rule.{pick}
 use Rattle.words.specs.Table.{Asc, Each, Falls, find, insertAt, lead, leadOf, table}
 use Rattle.words.proofs.Order.{each-at, each-map}
 use Rattle.words.proofs.Tables.{length-table, table-at}
-
-module _ {R : Type 0} (f : R → Bool) (read : List ℕ → R) (s : ℕ) where
-  pub lead-more : (l : List ℕ) (at n : ℕ) → 0 < n → f (read (part l at s)) ≡ true → lead f (table read s l at n) ≡ 1 + lead f (table read s l (at + s) (n - 1))
-  unfolding table lead leadOf
-  lead-more l at zero h e = absurd (not-suc-le-zero h)
-  lead-more l at (suc n) h e = rw (e, sub-one, one-add)
-
-  pub lead-stop : (l : List ℕ) (at n : ℕ) → 0 < n → f (read (part l at s)) ≡ false → lead f (table read s l at n) ≡ 0
-  unfolding table lead leadOf
-  lead-stop l at zero h e = absurd (not-suc-le-zero h)
-  lead-stop l at (suc n) h e = rw e
-
-  pub lead-none : (l : List ℕ) (at n : ℕ) → lead f (table read s l at (n - n)) ≡ 0
-  unfolding table lead
-  lead-none l at n = rw sub-self
-
-  -- a loop that counts the rows that pass: t is the whole count, i the rows passed, at where the next row starts, n the rows in all
-  pub lead-start : (l : List ℕ) (at n : ℕ) → lead f (table read s l at n) ≡ 0 + lead f (table read s l at (n - 0))
-  lead-start l at n = rw (sub-zero, zero-add)
-
-  pub lead-turn : (l : List ℕ) (at n i : ℕ) {t : ℕ} → t ≡ i + lead f (table read s l at (n - i)) → i < n → f (read (part l at s)) ≡ true → t ≡ i + 1 + lead f (table read s l (at + s) (n - (i + 1)))
-  lead-turn l at n i e h k =
-      let g = lead-more l at (n - i) (omega arith) k in
-      let d : n - i - 1 ≡ n - (i + 1) = omega arith in
-      let g' = rw d at g in omega arith
-
-  pub lead-found : (l : List ℕ) (at n i : ℕ) {t : ℕ} → t ≡ i + lead f (table read s l at (n - i)) → i < n → f (read (part l at s)) ≡ false → i ≡ t
-  lead-found l at n i e h k = omega (arith, lead-stop l at (n - i) (omega arith) k)
-
-  pub lead-end : (l : List ℕ) (at n i : ℕ) {t : ℕ} → t ≡ i + lead f (table read s l at (n - i)) → i ≡ n → i ≡ t
-  lead-end l at n i e h = omega (arith, lead-none l at n, ap (λ (k : ℕ). lead f (table read s l at (n - k))) h)
 
 lead-le-of : (b : Bool) (k n : ℕ) → k ≤ n → leadOf b k ≤ suc n
 unfolding leadOf

@@ -78,10 +78,6 @@ module _ (ls : List (List ℕ)) (k at i : ℕ) (h : k < length ls) (e : at ≡ l
   pub part-joined : (n : ℕ) → i + n ≤ length (getD ls k []) → part (joined ls) at n ≡ part (getD ls k []) i n
   part-joined n b = rw (joined-cut ls k h) (part-in (joined (take k ls)) (getD ls k []) (joined (drop (suc k) ls)) at i n e b)
 
-  pub num-joined : (n : ℕ) → i + n ≤ length (getD ls k []) → num n (joined ls) at ≡ num n (getD ls k []) i
-  unfolding num
-  num-joined n b = ap value (part-joined n b)
-
   pub over-joined : (bs : List ℕ) → i + length bs ≤ length (getD ls k []) → over (joined ls) at bs ≡ joined (set ls k (over (getD ls k []) i bs))
   unfolding joined
   over-joined bs b =
