@@ -33,8 +33,8 @@ static const struct shape APART[] = {
 };
 
 static const char *const GROUPS[RULES] = {
-    "frame", "order of rows", "indexes, next node, node 0, names allowed", "parents", "targets", "names twice", "links, limits, directory sizes",
-    "pointers", "owners of chunks, zeros above a size",
+    "frame", "order of nodes and entries", "indexes, next node, node 0, names allowed", "parents", "targets", "names twice", "links, limits, directory sizes",
+    "order of chunk rows, pointers", "owners of chunks, zeros above a size",
 };
 
 struct times {

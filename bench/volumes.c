@@ -173,7 +173,7 @@ void break_rule(enum rules rules)
     size_t entry = entry_row(ROWS - 1), name = entry + NAME;
     switch (rules) {
     case FRAME: volume[name + NAME_ROOM - 1] = 1; break;
-    case ORDER: put(chunk_row(ROWS - 1), 8, 0); break;
+    case ORDER: put(entry + INDEX, 4, 0); break;
     case NUMBERS: volume[name + get(entry + NAME_LENGTH, 4) - 1] = '/'; break;
     case PARENTS: put(entry, 8, ROWS - 1); break;
     case TARGETS: put(entry + NODE, 8, ROWS); break;

@@ -11,13 +11,13 @@ use native.Mathlib.Decide.{decLt}
 use lib.Dec.{eqb, ltb}
 use lib.ListN.{length, take, getD}
 use lib.Seq.{take-suc, take-suc-set, getD-set-same, take-set-le}
-use Rattle.words.specs.Rule.{both, bit, count}
+use Rattle.words.specs.Rules.{both, bit, count}
 use Rattle.words.proofs.Rules.{Says, holds, fails, says-eqb, says-ltb}
 use Rattle.words.proofs.Counting.{count-cons, count-snoc, bit-most}
 use Rattle.words.proofs.Multiples.{gap, lined-next}
 use Rattle.allocator.specs.Allocator.{Allocator, free, allocate, release, popped, grown, Taken}
 use Rattle.allocator.specs.Pointers.{due, Accounted, allocations}
-use Rattle.allocator.proofs.Ways.{Way, new, last, way, takes-new, takes-last}
+use Rattle.allocator.proofs.AllocateCases.{Way, new, last, way, takes-new, takes-last}
 
 -- ---- the pointers due
 
@@ -116,13 +116,6 @@ allocate-lined a l = go (allocate a) (way a)
 pub freed-words : (a : Allocator) (p : ℕ) → a .freeCount < length (a .words) → free (release p a) ≡ free a ++ (p ∷ [])
 unfolding free release
 freed-words a p h = rw (add-one (a .freeCount)) (take-suc-set (a .words) (a .freeCount) p h)
-
--- p is one of the live pointers, and the others stay
-pub release-accounts : (a : Allocator) (p : ℕ) (live others : List ℕ) → a .freeCount < length (a .words) → ((q : ℕ) → count q live ≡ bit (eqb p q) + count q others) → Accounted a live → Accounted (release p a) others
-unfolding Accounted release
-release-accounts a p live others h apart acc q =
-    let c : count q (free (release p a)) ≡ bit (eqb p q) + count q (free a) = ap (count q) (freed-words a p h) ∙ count-snoc q p (free a) in
-    omega (arith, acc q, apart q)
 
 -- ---- what the account says: once each, aligned, below word 3
 

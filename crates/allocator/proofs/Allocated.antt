@@ -10,7 +10,7 @@ use lib.Seq.{length-take-le}
 use Rattle.words.proofs.Multiples.{whole, step-apart}
 use Rattle.allocator.specs.Allocator.{Allocator, Taken, free, allocate}
 use Rattle.allocator.specs.Pointers.{Accounted}
-use Rattle.allocator.proofs.Ways.{Way, new, last, way}
+use Rattle.allocator.proofs.AllocateCases.{Way, new, last, way}
 use Rattle.allocator.proofs.Counted.{all-pointers}
 
 -- how many chunks an area of so many bytes has yet

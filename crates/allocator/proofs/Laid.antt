@@ -8,7 +8,7 @@ use native.Mathlib.Omega.{arith}
 use lib.ListN.{length, getD, set, length-append}
 use lib.Seq.{take-length, getD-append-add}
 use Rattle.words.specs.Bytes.{part, over, spell, num, word, Bytes}
-use Rattle.words.specs.Table.{table, layWords, Each}
+use Rattle.words.specs.Tables.{table, layWords, Each}
 use Rattle.words.proofs.Numbers.{num-below, num-part, spell-num, length-spell, value-spell}
 use Rattle.words.proofs.Order.{each-map, each-left, each-right, set-append-add}
 use Rattle.words.proofs.Pieces.{rows-again, each-rows}

@@ -1,8 +1,9 @@
-pub mod Sized
+pub mod Sizes
 pub mod Laid
 pub mod Steps
 pub mod Opened
-pub mod Ways
+pub mod AllocateCases
 pub mod Accounts
 pub mod Counted
 pub mod Allocated
+pub mod Released

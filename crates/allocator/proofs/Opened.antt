@@ -9,7 +9,7 @@ use lib.Dec.{eqb}
 use lib.ListN.{length}
 use borrow.Author.Tests.{eq-eqb, ne-eqb, eqb-true, eqb-false, lt-ltb, le-ltb}
 use Rattle.words.specs.Bytes.{over, spell, num, word}
-use Rattle.words.specs.Rule.{pick}
+use Rattle.words.specs.Rules.{pick}
 use Rattle.words.proofs.Rules.{pick-true, pick-false, done, or-else}
 use Rattle.types.specs.Outcomes.{outcome, refused}
 use Rattle.types.specs.declared.Answer.the-variants.{Done}
@@ -17,7 +17,7 @@ use Rattle.types.specs.declared.Error.the-variants.{UnsoundMemory, InvalidArgum
 use Rattle.allocator.specs.Sizes.{acceptedSize, defaultSize}
 use Rattle.allocator.specs.Allocator.{marker}
 use Rattle.allocator.specs.Opening.{newMark, oldMark, marked, sizeMeant, sized, openable, remarked, resized, opened}
-use Rattle.allocator.proofs.Sized.{accepted-bounds}
+use Rattle.allocator.proofs.Sizes.{accepted-bounds}
 
 module _ (l : List ℕ) where
   -- ---- the marker: x is what the first four bytes spell

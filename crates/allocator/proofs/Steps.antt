@@ -19,7 +19,7 @@ use Rattle.allocator.specs.declared.Popped.the-variants.{Pointer, Nothin
 use Rattle.allocator.specs.Sizes.{acceptedSize}
 use Rattle.allocator.specs.Allocator.{Step, readAllocator, layAllocator, readWord, withSize, withWords, allocate, release, setChunkSize}
 use Rattle.allocator.specs.Words.{Formed, lastFree, withoutLast}
-use Rattle.allocator.proofs.Ways.{takes-new, takes-last}
+use Rattle.allocator.proofs.AllocateCases.{takes-new, takes-last}
 use Rattle.allocator.proofs.Laid.{first-word, laid-again, read-fits, put-size, put-count, put-next, put-free}
 
 -- ---- the last free pointer

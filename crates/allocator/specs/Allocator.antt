@@ -5,8 +5,8 @@ use mathlib.Core.List.{List, [], _∷_, _++_}
 use lib.ListN.{length, take, getD, set}
 use lib.Dec.{eqb}
 use Rattle.words.specs.Bytes.{word}
-use Rattle.words.specs.Rule.{pick}
-use Rattle.words.specs.Table.{table, layWords}
+use Rattle.words.specs.Rules.{pick}
+use Rattle.words.specs.Tables.{table, layWords}
 use Rattle.types.specs.declared.Answer.{Answer}
 use Rattle.types.specs.declared.Answer.the-variants.{Done, Refused}
 use Rattle.types.specs.declared.Error.the-variants.{InvalidArgument}
@@ -38,6 +38,10 @@ layAllocator a = layWords (wordsOf a)
 unfoldable pub readWord : List ℕ → ℕ
 readWord b = word b 0
 
+-- room for free pointers: the whole words behind the first sixteen
+abbrev pub freeRoom : List ℕ → ℕ
+freeRoom l = length l / 8 - 16
+
 unfoldable pub readAllocator : List ℕ → Allocator
 readAllocator l = record {
   mark = word l 0;
@@ -45,7 +49,7 @@ readAllocator l = record {
   freeCount = word l 16;
   nextPtr = word l 24;
   unread = table readWord 8 l 32 12;
-  words = table readWord 8 l 128 (length l / 8 - 16);
+  words = table readWord 8 l 128 (freeRoom l);
 }
 
 -- ---- one field changed
@@ -94,3 +98,8 @@ setChunkSize s a =
     (pick (eqb (a .nextPtr) 0) (record { answer = Done 0; after = withSize s a })
     (record { answer = Refused InvalidArgument; after = a })))
     (record { answer = Refused InvalidArgument; after = a })
+
+-- pointers freed one after another
+unfoldable pub released : List ℕ → Allocator → Allocator
+released [] a = a
+released (p ∷ ps) a = released ps (release p a)

@@ -6,11 +6,11 @@ use mathlib.Core.List.{List}
 use lib.ListN.{length}
 use lib.Dec.{eqb, leb, ltb}
 use Rattle.words.specs.Bytes.{word, num, over, spell}
-use Rattle.words.specs.Rule.{pick, both, either, upto, apart}
+use Rattle.words.specs.Rules.{pick, both, either, upto, apart}
 use Rattle.types.specs.Outcomes.{Outcome, refused, done}
 use Rattle.types.specs.declared.Error.the-variants.{UnsoundMemory, InvalidArgument}
 use Rattle.allocator.specs.Sizes.{acceptedSize, defaultSize}
-use Rattle.allocator.specs.Allocator.{marker}
+use Rattle.allocator.specs.Allocator.{marker, freeRoom}
 
 -- the four bytes `FSA1` and `ALO1`, as the numbers that they spell
 abbrev pub newMark : ℕ
@@ -28,10 +28,6 @@ sizeMeant l = pick (eqb (word l 8) 0) defaultSize (word l 8)
 
 unfoldable pub sized : List ℕ → Bool
 sized l = pick (eqb (word l 8) 0) (eqb (word l 24) 0) (acceptedSize (word l 8))
-
--- whole words of the part behind the first sixteen
-unfoldable pub freeRoom : List ℕ → ℕ
-freeRoom l = length l / 8 - 16
 
 unfoldable pub freeWord : List ℕ → ℕ → ℕ
 freeWord l i = word l (128 + 8 * i)

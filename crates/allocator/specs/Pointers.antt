@@ -4,7 +4,7 @@ use mathlib.Core.Path.{_≡_}
 use Prim.Native.Nat.{ℕ, zero, suc, _+_, _%_}
 use mathlib.Core.List.{List, [], _∷_}
 use lib.Dec.{eqb, ltb}
-use Rattle.words.specs.Rule.{both, bit, count}
+use Rattle.words.specs.Rules.{both, bit, count}
 use Rattle.allocator.specs.Allocator.{Allocator, free, allocate}
 
 -- 1 at the multiples of S below the next new pointer, else 0

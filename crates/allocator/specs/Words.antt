@@ -7,9 +7,9 @@ use mathlib.Core.List.{List}
 use lib.ListN.{length}
 use lib.Dec.{eqb, leb}
 use Rattle.words.specs.Bytes.{word, over, spell}
-use Rattle.words.specs.Rule.{pick, both}
+use Rattle.words.specs.Rules.{pick, both}
 use Rattle.allocator.specs.Sizes.{acceptedSize}
-use Rattle.allocator.specs.Allocator.{marker}
+use Rattle.allocator.specs.Allocator.{marker, freeRoom}
 use Rattle.allocator.specs.declared.Popped.{Popped}
 use Rattle.allocator.specs.declared.Popped.the-variants.{Pointer, Nothing}
 
@@ -31,4 +31,4 @@ withoutLast l = pick (eqb (word l 16) 0) l (over l 16 (spell 8 (word l 16 - 1)))
 
 -- the whole marker, an accepted size, and no more free pointers than words behind the first sixteen
 unfoldable pub wellMarked : List ℕ → Bool
-wellMarked l = both (eqb (word l 0) marker) (both (acceptedSize (word l 8)) (leb (word l 16) (length l / 8 - 16)))
+wellMarked l = both (eqb (word l 0) marker) (both (acceptedSize (word l 8)) (leb (word l 16) (freeRoom l)))

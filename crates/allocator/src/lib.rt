@@ -43,6 +43,7 @@ pub fn accepted(size: u64) -> bool
     }
 }
 
+// The chunk size.
 pub fn chunk_size(words: &[u8]) -> u64
     requires { ⌜ 128 ≤ length (now words) ⌝ }
     ensures { λ r. ⌜ r ≡ word (now (words .entry)) 8 ⌝ }
@@ -50,6 +51,7 @@ pub fn chunk_size(words: &[u8]) -> u64
     words::get64(words, CHUNK_SIZE)
 }
 
+// How many pointers are free.
 pub fn get_len(words: &[u8]) -> u64
     requires { ⌜ 128 ≤ length (now words) ⌝ }
     ensures { λ r. ⌜ r ≡ word (now (words .entry)) 16 ⌝ }
@@ -57,6 +59,7 @@ pub fn get_len(words: &[u8]) -> u64
     words::get64(words, AVAILABLE_CHUNKS_LEN)
 }
 
+// The free pointer with an index.
 pub fn get_ptr(words: &[u8], index: usize) -> u64
     requires { ⌜ 128 + 8 * index + 8 ≤ length (now words) ⌝ }
     ensures { λ r. ⌜ r ≡ word (now (words .entry)) (128 + 8 * index) ⌝ }
@@ -75,6 +78,7 @@ fn get_next_max_ptr(words: &mut [u8]) -> u64
     next
 }
 
+// Puts a pointer behind the free ones.
 fn push_ptr(words: &mut [u8], pointer: u64)
     requires { ⌜ 128 + 8 * word (now words) 16 + 8 ≤ length (now words) ⌝ }
     ensures { λ _. ⌜ now (words .exit) ≡ over (over (now (words .entry)) (128 + 8 * word (now (words .entry)) 16) (spell 8 pointer)) 16 (spell 8 (word (now (words .entry)) 16 + 1)) ⌝ }
@@ -110,6 +114,7 @@ pub fn allocate(words: &mut [u8]) -> u64
     }
 }
 
+// Takes a pointer back: it is the next one given out.
 pub fn free(words: &mut [u8], pointer: u64)
     requires { ⌜ (Formed (now words)) × (128 + 8 * word (now words) 16 + 8 ≤ length (now words)) ⌝ }
     ensures { λ _. ⌜ now (words .exit) ≡ layAllocator (release pointer (readAllocator (now (words .entry)))) ⌝ }

@@ -13,9 +13,9 @@ ghost use Prim.Native.Nat.{ℕ, _+_, _-_, _*_, _≤_, _<_};
 ghost use lib.ListN.{length};
 ghost use lib.Dec.{eqb};
 ghost use Rattle.words.specs.Bytes.{word};
-ghost use Rattle.words.specs.Rule.{upto, apart};
+ghost use Rattle.words.specs.Rules.{upto, apart};
 ghost use Rattle.types.specs.Outcomes.{outcome};
-ghost use Rattle.allocator.specs.Opening.{marked, sizeMeant, sized, freeWord, lined, freeLined, freeApart, pointersGood, openable, remarked, resized, opened};
+ghost use Rattle.allocator.specs.Opening.{marked, sizeMeant, sized, freeWord, lined, pointersGood, openable, remarked, resized, opened};
 
 // The first four bytes of older words: `ALO1`.
 const OLD_MARK: u64 = 827280449;
@@ -24,6 +24,7 @@ const DEFAULT_CHUNK_SIZE: u64 = 16384;
 
 const LEAST: usize = types::WORD * types::ALLOCATOR_WORDS;
 
+// Whether words have a marker, this one or the older.
 fn is_marked(words: &[u8]) -> bool
     requires { ⌜ 128 ≤ length (now words) ⌝ }
     ensures { λ r. ⌜ r ≡ marked (now (words .entry)) ⌝ }
@@ -47,6 +48,7 @@ fn size_meant(words: &[u8]) -> u64
     size
 }
 
+// Whether the size is unset and no pointer was given out, or is accepted.
 fn is_sized(words: &[u8]) -> bool
     requires { ⌜ 128 ≤ length (now words) ⌝ }
     ensures { λ r. ⌜ r ≡ sized (now (words .entry)) ⌝ }
@@ -100,6 +102,7 @@ fn is_first(words: &[u8], i: usize) -> bool
     true
 }
 
+// Whether no free pointer stands twice.
 fn all_apart(words: &[u8], count: usize) -> bool
     requires { ⌜ 128 + 8 * count ≤ length (now words) ⌝ }
     ensures { λ r. ⌜ r ≡ apart count (λ j i. eqb (freeWord (now (words .entry)) j) (freeWord (now (words .entry)) i)) ⌝ }
@@ -114,6 +117,7 @@ fn all_apart(words: &[u8], count: usize) -> bool
     true
 }
 
+// Whether word 3 and the free pointers can be of a chunk size.
 fn pointers_good(words: &[u8], size: u64) -> bool
     requires { ⌜ (128 ≤ length (now words)) × (0 < size) ⌝ }
     ensures { λ r. ⌜ r ≡ pointersGood (now (words .entry)) size ⌝ }
@@ -133,6 +137,7 @@ fn pointers_good(words: &[u8], size: u64) -> bool
     all_apart(words, count as usize)
 }
 
+// Whether words can be opened.
 fn is_openable(words: &[u8]) -> bool
     requires { ⌜ 128 ≤ length (now words) ⌝ }
     ensures { λ r. ⌜ r ≡ openable (now (words .entry)) ⌝ }
@@ -146,6 +151,7 @@ fn is_openable(words: &[u8]) -> bool
     pointers_good(words, size_meant(words))
 }
 
+// Writes the marker of today.
 fn renew_mark(words: &mut [u8])
     requires { ⌜ 128 ≤ length (now words) ⌝ }
     ensures { λ _. ⌜ now (words .exit) ≡ remarked (now (words .entry)) ⌝ }
@@ -155,6 +161,7 @@ fn renew_mark(words: &mut [u8])
     }
 }
 
+// Writes the default size where none is stored.
 fn renew_size(words: &mut [u8])
     requires { ⌜ 128 ≤ length (now words) ⌝ }
     ensures { λ _. ⌜ now (words .exit) ≡ resized (now (words .entry)) ⌝ }

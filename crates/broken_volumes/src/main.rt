@@ -2,6 +2,7 @@
 // The text lays out volumes, and breaks a copy of the last one anew in each case. oracle/README.md tells what each line means.
 use libc::STDIN_FILENO;
 use libc::STDOUT_FILENO;
+use volume::Place;
 ghost use mathlib.Core.Path.{_≡_};
 ghost use Prim.Native.Nat.{_+_, _≤_, min};
 ghost use lib.ListN.{length};
@@ -16,6 +17,7 @@ const NEW_LINE: u8 = b'\n';
 // The longest memory that a case is lent. The greatest tables ask for 1,507,520 bytes at least.
 const ROOM: usize = 1_572_864;
 
+// Replays the standard input, in memories of zeros.
 fn main() {
     let mut text = vectors::blank();
     let n = io::read_full(STDIN_FILENO, &mut text);
@@ -31,6 +33,7 @@ fn blank_memory() -> [u8; ROOM]
     [0; ROOM]
 }
 
+// The volumes and cases of the text, one after the other.
 fn replay(text: &[u8], volume: &mut [u8], memory: &mut [u8])
     requires { ⌜ length (now volume) ≡ length (now memory) ⌝ }
 {
@@ -98,24 +101,29 @@ fn end_of_line(text: &[u8], at: usize) -> usize
     i
 }
 
+// Opens the memory, and prints the answer, whether a byte changed, and the checksum.
 fn judge(memory: &[u8]) {
     let before = vectors::checksum(memory);
-    let sound = soundness::sound(memory);
+    let place = soundness::open(memory);
     let after = vectors::checksum(memory);
-    print_answer(sound);
+    print_answer(place);
     print_whether_changed(before, after);
     print_checksum(after);
 }
 
 // The number that a call on the volume would give back first.
-fn print_answer(sound: bool) {
-    if sound {
-        io::write_all(STDOUT_FILENO, b"answer 0");
-    } else {
-        io::write_all(STDOUT_FILENO, b"answer 1");
+fn print_answer(place: Place) {
+    match place {
+        Place::At(_) => {
+            io::write_all(STDOUT_FILENO, b"answer 0");
+        }
+        Place::Nowhere => {
+            io::write_all(STDOUT_FILENO, b"answer 1");
+        }
     }
 }
 
+// Whether the memory's checksum is another one than before.
 fn print_whether_changed(before: u64, after: u64) {
     if before == after {
         io::write_all(STDOUT_FILENO, b" unchanged");
@@ -124,11 +132,13 @@ fn print_whether_changed(before: u64, after: u64) {
     }
 }
 
+// The checksum, in decimal.
 fn print_checksum(sum: u64) {
     io::write_all(STDOUT_FILENO, b" checksum ");
     io::print_decimal(STDOUT_FILENO, sum);
 }
 
+// The label, and the end of the line.
 fn print_label(label: &[u8]) {
     io::write_all(STDOUT_FILENO, label);
     io::write_all(STDOUT_FILENO, b"\n");

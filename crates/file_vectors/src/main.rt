@@ -199,7 +199,7 @@ fn size_of(volume: &[u8], node: u64) -> u64 {
     if NODES <= node {
         return 0;
     }
-    let at = FIRST_SIZE + types::NODE_ROW * (node as usize);
+    let at = FIRST_SIZE + volume::NODE_ROW * (node as usize);
     if volume.len() < at + types::WORD {
         return 0;
     }

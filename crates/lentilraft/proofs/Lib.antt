@@ -1,4 +1,4 @@
 pub mod Lines
 pub mod Reported
-pub mod Doors
+pub mod Door
 pub mod Kept

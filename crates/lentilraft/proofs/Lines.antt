@@ -9,7 +9,7 @@ use native.Mathlib.Omega.{arith}
 use borrow.Author.Tests.{lt-ltb, le-ltb}
 use lib.ListN.{length, set, length-append}
 use Rattle.words.specs.Bytes.{over, spell}
-use Rattle.words.specs.Table.{joined}
+use Rattle.words.specs.Tables.{joined}
 use Rattle.words.proofs.Parts.{set-over, over-before, over-nil, two}
 use Rattle.words.proofs.Rules.{pick-true, pick-false}
 use Rattle.volume.specs.Volume.{Volume}
@@ -114,8 +114,8 @@ line-put l at key n k e h s p q t =
 
 -- the three groups of lines are the text, where the numbers are the volume's
 pub text-put : (v : Volume) (l : List ℕ) {size nodes entries chunks free pointer node : ℕ} (i j r : ℕ) {m n o : List ℕ}
-    → size ≡ v .allocator .chunkSize → nodes ≡ length (v .nodes) → entries ≡ length (v .entries) → chunks ≡ length (v .chunks)
-    → free ≡ v .allocator .freeCount → pointer ≡ v .allocator .nextPtr → node ≡ v .nextNode
+    → size ≡ v .store .allocator .chunkSize → nodes ≡ length (v .names .nodes) → entries ≡ length (v .names .entries) → chunks ≡ length (v .store .chunks)
+    → free ≡ v .store .allocator .freeCount → pointer ≡ v .store .allocator .nextPtr → node ≡ v .names .nextNode
     → i ≡ length (sizeLines size) → j ≡ i + length (rowLines nodes entries chunks) → r ≡ j + length (nextLines free pointer node)
     → r ≤ 512 → 512 ≤ length l → m ≡ over l 0 (sizeLines size) → n ≡ over m i (rowLines nodes entries chunks) → o ≡ over n j (nextLines free pointer node)
     → (r ≡ length (text v)) × (r ≤ 512) × (o ≡ over l 0 (text v))

@@ -3,14 +3,14 @@
 use mathlib.Core.Path.{_≡_, refl, ap, _∙_}
 use Prim.Native.Nat.{ℕ, _-_}
 use lib.Count.{trailingZeros}
-use Rattle.words.specs.Rule.{pick, either}
-use Rattle.words.specs.Table.{joined}
+use Rattle.words.specs.Rules.{pick, either}
+use Rattle.words.specs.Tables.{joined}
 use Rattle.allocator.specs.Sizes.{acceptedSize}
 use Rattle.volume.specs.Volume.{shown, atBytes}
 use Rattle.volume.specs.Framed.{Placed}
 use Rattle.volume.specs.Fresh.{fresh, freshLaid}
 use Rattle.volume.proofs.Laid.{shown-laid}
-use Rattle.volume.proofs.NewGood.{fits-fresh}
+use Rattle.volume.proofs.FreshGood.{fits-fresh}
 use Rattle.lentilraft.specs.Report.{digits, width, decimal, line, sizeLines, rowLines, nextLines, text, newText}
 
 -- whatever its rooms and its chunk area

@@ -3,20 +3,20 @@
 -- Assumes nothing.
 use Prim.Native.Nat.{ℕ}
 use mathlib.Core.List.{List}
-use Rattle.words.specs.Rule.{pick}
+use Rattle.words.specs.Rules.{pick}
 use Rattle.types.specs.declared.Limit.{Limit}
 use Rattle.types.specs.declared.Answer.{Answer}
 use Rattle.types.specs.declared.Answer.the-variants.{Done, Refused}
 use Rattle.types.specs.declared.Error.the-variants.{UnsoundMemory}
 use Rattle.types.specs.Outcomes.{Outcome, outcome, refused}
 use Rattle.allocator.specs.Allocator as Allocator
-use Rattle.volume.specs.Volume.{Volume, shown, laid, withAllocator}
+use Rattle.volume.specs.Volume.{Volume, shown, laid, withAllocator, onStore}
 use Rattle.volume.specs.Steps.{Step}
-use Rattle.soundness.specs.Check.{sound}
-use Rattle.chunks.specs.Limits as Limits
-use Rattle.chunks.specs.Read as Read
-use Rattle.chunks.specs.Write as Write
-use Rattle.chunks.specs.Resize as Resize
+use Rattle.soundness.specs.Checked.{sound}
+use Rattle.files.specs.Limits as Limits
+use Rattle.files.specs.Read as Read
+use Rattle.files.specs.Write as Write
+use Rattle.files.specs.Resize as Resize
 
 unfoldable pub door : List ℕ → (Volume → Step) → Outcome
 door l call = pick (sound l) (outcome (call (shown l) .answer) (laid (call (shown l) .after))) (refused UnsoundMemory l)
@@ -28,7 +28,7 @@ unfoldable pub check : List ℕ → Answer
 check l = pick (sound l) (Done 0) (Refused UnsoundMemory)
 
 unfoldable pub chunkSizeSet : ℕ → Volume → Step
-chunkSizeSet s v = record { answer = Allocator.setChunkSize s (v .allocator) .answer; after = withAllocator (Allocator.setChunkSize s (v .allocator) .after) v }
+chunkSizeSet s v = record { answer = Allocator.setChunkSize s (v .store .allocator) .answer; after = onStore (withAllocator (Allocator.setChunkSize s (v .store .allocator) .after)) v }
 
 unfoldable pub setChunkSize : ℕ → List ℕ → Outcome
 setChunkSize s l = door l (chunkSizeSet s)

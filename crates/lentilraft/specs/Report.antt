@@ -6,12 +6,12 @@ use lib.Count.{trailingZeros}
 use lib.Dec.{ltb}
 use lib.ListN.{length}
 use Rattle.words.specs.Bytes.{over}
-use Rattle.words.specs.Rule.{pick}
-use Rattle.words.specs.Table.{joined}
+use Rattle.words.specs.Rules.{pick}
+use Rattle.words.specs.Tables.{joined}
 use Rattle.types.specs.Outcomes.{Outcome, refused, done}
 use Rattle.types.specs.declared.Error.the-variants.{UnsoundMemory, OutputTooShort}
 use Rattle.volume.specs.Volume.{Volume, form, shown}
-use Rattle.soundness.specs.Check.{sound}
+use Rattle.soundness.specs.Checked.{sound}
 
 -- ---- numbers in decimal
 
@@ -85,9 +85,9 @@ nextLines free pointer node = joined (line freeKey free ∷ line nextPtrKey poin
 
 unfoldable pub text : Volume → List ℕ
 text v =
-    joined (sizeLines (v .allocator .chunkSize)
-    ∷ rowLines (length (v .nodes)) (length (v .entries)) (length (v .chunks))
-    ∷ nextLines (v .allocator .freeCount) (v .allocator .nextPtr) (v .nextNode) ∷ [])
+    joined (sizeLines (v .store .allocator .chunkSize)
+    ∷ rowLines (length (v .names .nodes)) (length (v .names .entries)) (length (v .store .chunks))
+    ∷ nextLines (v .store .allocator .freeCount) (v .store .allocator .nextPtr) (v .names .nextNode) ∷ [])
 
 -- ---- the text of a new volume
 

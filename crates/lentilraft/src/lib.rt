@@ -1,10 +1,11 @@
-// The public calls on a volume. Each asks first whether the memory is sound, and refuses it with 1 if it is not; no call asks anything
-// of its caller.
+// The public calls on a volume. Each opens the memory first, and refuses it with 1 if it is not sound; no call asks anything of its
+// caller.
 mod text;
 
 use types::Answer;
 use types::Error;
 use types::Limit;
+use volume::Place;
 ghost use mathlib.Core.Path.{_≡_};
 ghost use Rattle.types.specs.Outcomes.{outcome};
 ghost use Rattle.lentilraft.specs.Door.{check, setChunkSize, setLimit, read, resizeFile, write};
@@ -13,76 +14,76 @@ ghost use Rattle.lentilraft.specs.Report.{report};
 // The least room for a report.
 const LEAST_OUTPUT: usize = 512;
 
+// Whether the memory is a sound volume: 1, or nothing to tell.
 pub fn check(volume: &[u8]) -> Answer
     ensures { λ r. ⌜ r ≡ check (now (volume .entry)) ⌝ }
 {
-    if !soundness::sound(volume) {
-        return Answer::Refused(Error::UnsoundMemory);
+    match soundness::open(volume) {
+        Place::At(_) => Answer::Done(0),
+        Place::Nowhere => Answer::Refused(Error::UnsoundMemory),
     }
-    Answer::Done(0)
 }
 
+// Sets the chunk size; another one only if no pointer was ever given out.
 pub fn set_chunk_size(volume: &mut [u8], size: u64) -> Answer
     ensures { λ r. ⌜ outcome r (now (volume .exit)) ≡ setChunkSize size (now (volume .entry)) ⌝ }
 {
-    if !soundness::sound(volume) {
+    let Place::At(layout) = soundness::open(volume) else {
         return Answer::Refused(Error::UnsoundMemory);
-    }
-    let layout = volume::read_layout(volume);
+    };
     tables::set_chunk_size(volume, layout, size)
 }
 
+// Puts the report's text at the front of the output, and answers its length.
 pub fn report(volume: &[u8], out: &mut [u8]) -> Answer
     ensures { λ r. ⌜ outcome r (now (out .exit)) ≡ report (now (volume .entry)) (now (out .entry)) ⌝ }
 {
-    if !soundness::sound(volume) {
+    let Place::At(layout) = soundness::open(volume) else {
         return Answer::Refused(Error::UnsoundMemory);
-    }
+    };
     if out.len() < LEAST_OUTPUT {
         return Answer::Refused(Error::OutputTooShort);
     }
-    let layout = volume::read_layout(volume);
     let count = text::put_text(volume, layout, out);
     Answer::Done(count as u64)
 }
 
+// Reads a file's bytes from an offset on into the front of the buffer, and answers how many.
 pub fn read(volume: &[u8], node: u64, offset: u64, buffer: &mut [u8]) -> Answer
     ensures { λ r. ⌜ outcome r (now (buffer .exit)) ≡ read node offset (now (volume .entry)) (now (buffer .entry)) ⌝ }
 {
-    if !soundness::sound(volume) {
+    let Place::At(layout) = soundness::open(volume) else {
         return Answer::Refused(Error::UnsoundMemory);
-    }
-    let layout = volume::read_layout(volume);
-    chunks::read(volume, layout, node, offset, buffer)
+    };
+    files::read(volume, layout, node, offset, buffer)
 }
 
-// A limit of a file's size, or none.
+// Sets a file's limit, or takes it away.
 pub fn set_limit(volume: &mut [u8], node: u64, limit: Limit) -> Answer
     ensures { λ r. ⌜ outcome r (now (volume .exit)) ≡ setLimit node limit (now (volume .entry)) ⌝ }
 {
-    if !soundness::sound(volume) {
+    let Place::At(layout) = soundness::open(volume) else {
         return Answer::Refused(Error::UnsoundMemory);
-    }
-    let layout = volume::read_layout(volume);
-    chunks::set_limit(volume, layout, node, limit)
+    };
+    files::set_limit(volume, layout, node, limit)
 }
 
+// Gives a file another size. What it gains reads zero.
 pub fn resize_file(volume: &mut [u8], node: u64, size: u64) -> Answer
     ensures { λ r. ⌜ outcome r (now (volume .exit)) ≡ resizeFile node size (now (volume .entry)) ⌝ }
 {
-    if !soundness::sound(volume) {
+    let Place::At(layout) = soundness::open(volume) else {
         return Answer::Refused(Error::UnsoundMemory);
-    }
-    let layout = volume::read_layout(volume);
-    chunks::resize_file(volume, layout, node, size)
+    };
+    files::resize_file(volume, layout, node, size)
 }
 
+// Writes bytes into a file from an offset on, and answers how many. A gap before them reads zero.
 pub fn write(volume: &mut [u8], node: u64, offset: u64, bytes: &[u8]) -> Answer
     ensures { λ r. ⌜ outcome r (now (volume .exit)) ≡ write node offset (now (bytes .entry)) (now (volume .entry)) ⌝ }
 {
-    if !soundness::sound(volume) {
+    let Place::At(layout) = soundness::open(volume) else {
         return Answer::Refused(Error::UnsoundMemory);
-    }
-    let layout = volume::read_layout(volume);
-    chunks::write(volume, layout, node, offset, bytes)
+    };
+    files::write(volume, layout, node, offset, bytes)
 }

@@ -6,7 +6,7 @@ use paths::Cut;
 ghost use mathlib.Core.Path.{_≡_};
 ghost use Prim.Native.Nat.{_+_, _≤_, _<_};
 ghost use lib.ListN.{length};
-ghost use Rattle.paths.proofs.Told.{Fit};
+ghost use Rattle.paths.proofs.Bounds.{Fit};
 
 // What the line of a path starts with.
 const PATH: u64 = 1;

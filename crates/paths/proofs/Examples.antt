@@ -4,7 +4,7 @@ use mathlib.Core.Path.{_≡_, refl}
 use mathlib.Core.Bool.{true, false}
 use mathlib.Core.List.{List, [], _∷_}
 use Prim.Native.Nat.{ℕ}
-use Rattle.words.specs.Rule.{pick, both, either, same}
+use Rattle.words.specs.Rules.{pick, both, either, same}
 use Rattle.paths.specs.Path.{parts, notPermitted, slash, dot, cons, split, dropped, upward, walk, cutPath, noSlash, nameAllowed}
 
 abbrev a : ℕ

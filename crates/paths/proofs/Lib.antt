@@ -3,6 +3,6 @@ pub mod Names
 pub mod Scan
 pub mod Walk
 pub mod Shown
-pub mod Told
+pub mod Bounds
 pub mod Parts
 pub mod Examples

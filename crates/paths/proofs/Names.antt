@@ -12,7 +12,7 @@ use borrow.Author.Tests.{eq-eqb}
 use lib.ListN.{length, getD}
 use lib.Seq.{take-length}
 use Rattle.words.specs.Bytes.{part}
-use Rattle.words.specs.Rule.{both, same}
+use Rattle.words.specs.Rules.{both, same}
 use Rattle.words.proofs.Joined.{both-false, either-false, either-true}
 use Rattle.words.proofs.Rules.{Says, holds, fails, says-true, true-says, false-says, says-map, says-both, says-leb, says-not}
 use Rattle.words.proofs.Blocks.{says-same}

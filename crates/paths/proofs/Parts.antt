@@ -8,8 +8,8 @@ use native.Mathlib.Omega.{arith}
 use lib.Dec.{eqb, ltb}
 use lib.ListN.{length, take, getD}
 use Rattle.words.specs.Bytes.{zeros}
-use Rattle.words.specs.Rule.{pick, both}
-use Rattle.words.specs.Table.{Each}
+use Rattle.words.specs.Rules.{pick, both}
+use Rattle.words.specs.Tables.{Each}
 use Rattle.words.proofs.Parts.{length-zeros}
 use Rattle.words.proofs.Order.{each-append, each-take}
 use Rattle.types.specs.Sizes.{mostPath, mostParts}
@@ -22,7 +22,7 @@ use Rattle.paths.proofs.Sorts.{Sorted, is-dropped, is-upward, is-name, 
 use Rattle.paths.proofs.Scan.{split-some}
 use Rattle.paths.proofs.Names.{Part, named}
 use Rattle.paths.proofs.Shown.{length-shown}
-use Rattle.paths.proofs.Told.{Told, cut-told, told-parts, told-refused, told-long}
+use Rattle.paths.proofs.Bounds.{Told, cut-told, told-parts, told-refused, told-long}
 
 abbrev Whole : List ℕ → Type 0
 Whole p = noSlash p ≡ true

@@ -13,7 +13,7 @@ use borrow.Author.Tests.{lt-ltb, le-ltb, not-true}
 use lib.ListN.{length, drop, getD, drop-of-length-le}
 use lib.Seq.{drop-cons}
 use Rattle.words.specs.Bytes.{part}
-use Rattle.words.specs.Rule.{pick, both, bit, times, count}
+use Rattle.words.specs.Rules.{pick, both, bit, times, count}
 use Rattle.words.proofs.Joined.{both-true}
 use Rattle.words.proofs.Rules.{pick-true, pick-false}
 use Rattle.words.proofs.Parts.{part-snoc, part-none, cut-drop}

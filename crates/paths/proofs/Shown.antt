@@ -11,7 +11,7 @@ use lib.Dec.{eqb}
 use lib.ListN.{length, take, drop, getD, set, length-drop}
 use lib.Seq.{getD-set-same, getD-set-other, getD-drop, drop-drop}
 use Rattle.words.specs.Bytes.{part}
-use Rattle.words.specs.Rule.{pick}
+use Rattle.words.specs.Rules.{pick}
 use Rattle.words.proofs.Parts.{part-zero, part-cons}
 use Rattle.paths.specs.Path.{slash, cons, split}
 use Rattle.paths.specs.Bounds.{shownFrom, shownParts}
@@ -34,11 +34,6 @@ module _ (path ss ls : List ℕ) where
   shown-from-at i (suc n) (suc j) h =
       let e : i + 1 + j ≡ i + suc j = omega arith in
       rw e at (shown-from-at (i + 1) n j (le-of-suc-le-suc h))
-
-  -- the part with number i
-  pub shown-at : (n i : ℕ) → i < n → getD (shownParts path ss ls n) i [] ≡ part path (getD ss i 0) (getD ls i 0)
-  unfolding shownParts
-  shown-at n i h = rw zero-add at (shown-from-at 0 n i h)
 
   shown-from-take : (i m n : ℕ) → m ≤ n → take m (shownFrom path ss ls i n) ≡ shownFrom path ss ls i m
   unfolding shownFrom

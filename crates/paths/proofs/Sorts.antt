@@ -8,7 +8,7 @@ use native.Mathlib.Omega.{arith}
 use lib.Dec.{eqb}
 use borrow.Author.Tests.{eq-eqb, ne-eqb, le-leb, lt-leb, eqb-true, eqb-false}
 use lib.ListN.{length}
-use Rattle.words.specs.Rule.{pick, both, either, bit, times, count, same}
+use Rattle.words.specs.Rules.{pick, both, either, bit, times, count, same}
 use Rattle.words.proofs.Joined.{both-false}
 use Rattle.words.proofs.Rules.{pick-true, pick-false}
 use Rattle.paths.specs.declared.Sort.{Sort}

@@ -9,7 +9,7 @@ use lib.Dec.{eqb, ltb}
 use borrow.Author.Tests.{eq-eqb, ne-eqb, lt-ltb, le-ltb}
 use lib.ListN.{length, set, getD}
 use Rattle.words.specs.Bytes.{part}
-use Rattle.words.specs.Rule.{pick, both, count}
+use Rattle.words.specs.Rules.{pick, both, count}
 use Rattle.words.proofs.Rules.{pick-true, pick-false}
 use Rattle.words.proofs.Parts.{length-part}
 use Rattle.types.specs.Sizes.{mostPath}

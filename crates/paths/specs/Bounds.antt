@@ -6,7 +6,7 @@ use mathlib.Core.List.{List, [], _∷_}
 use lib.ListN.{length, getD, set}
 use lib.Dec.{eqb, ltb}
 use Rattle.words.specs.Bytes.{part}
-use Rattle.words.specs.Rule.{pick, both}
+use Rattle.words.specs.Rules.{pick, both}
 use Rattle.types.specs.Sizes.{mostPath}
 use Rattle.paths.specs.declared.Cut.{Cut}
 use Rattle.paths.specs.declared.Cut.the-variants.{Parts, NotPermitted, TooLong}

@@ -5,7 +5,7 @@ use mathlib.Core.Bool.{Bool, true, false, not}
 use mathlib.Core.List.{List, [], _∷_, _++_}
 use lib.ListN.{length, take, getD}
 use lib.Dec.{eqb, leb, ltb}
-use Rattle.words.specs.Rule.{pick, both, either, same}
+use Rattle.words.specs.Rules.{pick, both, either, same}
 use Rattle.types.specs.Sizes.{mostPath, mostName}
 
 abbrev pub slash : ℕ

@@ -7,7 +7,7 @@ use mathlib.Core.List.{List}
 use lib.ListN.{length, getD, set}
 use lib.Dec.{eqb, leb}
 use Rattle.words.specs.Bytes.{part}
-use Rattle.words.specs.Rule.{pick, count}
+use Rattle.words.specs.Rules.{pick, count}
 use Rattle.paths.specs.declared.Sort.{Sort}
 use Rattle.paths.specs.declared.Sort.the-variants.{Dropped, Upward, Name}
 use Rattle.paths.specs.declared.Step.{Step}

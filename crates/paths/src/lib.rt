@@ -3,7 +3,7 @@ ghost use mathlib.Core.Path.{_≡_};
 ghost use Prim.Native.Nat.{_+_, _-_, _*_, _<_, _≤_};
 ghost use lib.ListN.{length, getD};
 ghost use lib.Dec.{eqb};
-ghost use Rattle.words.specs.Rule.{bit};
+ghost use Rattle.words.specs.Rules.{bit};
 ghost use Rattle.types.specs.Sizes.{mostPath};
 ghost use Rattle.paths.specs.Path.{slash, dot, nameAllowed};
 ghost use Rattle.paths.specs.Bounds.{cutout, cutBounds};

@@ -10,11 +10,11 @@ use lib.Dec.{eqb}
 use lib.ListN.{length, getD, set, replicate, getD-replicate, length-replicate, length-set}
 use lib.Seq.{getD-set-same, getD-set-other}
 use borrow.Author.Tests.{eqb-true, eqb-false}
-use Rattle.words.specs.Rule.{bit, tally, times}
-use Rattle.words.specs.Table.{Asc}
+use Rattle.words.specs.Rules.{bit, tally, times}
+use Rattle.words.specs.Tables.{Asc}
 use Rattle.words.proofs.Order.{each-at}
 use Rattle.words.proofs.Places.{asc-at}
-use Rattle.words.proofs.FoundRows.{found-passes, none-passes}
+use Rattle.words.proofs.FoundRows.{none-passes}
 use Rattle.words.proofs.Rules.{Says, holds, fails, says-eqb, tally-turn, tally-le, tally-times}
 use Rattle.words.proofs.Counting.{bit-same, bit-apart}
 use Rattle.types.specs.declared.NodeRecord.{NodeRecord}
@@ -22,12 +22,13 @@ use Rattle.volume.specs.Rows.{Entry, readNode, readEntry}
 use Rattle.volume.specs.declared.Layout.{Layout}
 use Rattle.volume.specs.Volume.{shown}
 use Rattle.volume.specs.Sound.{nodeBefore}
+use Rattle.tables.proofs.NodeRows.{number-is}
 use Rattle.tables.specs.declared.Found.{Found}
 use Rattle.tables.specs.declared.Found.the-variants.{At, Nothing}
 use Rattle.tables.specs.Tables.{Ready, nodeAt, entryAt, foundNode}
-use Rattle.tables.proofs.Rooms.{rooms, count-nodes, count-entries}
-use Rattle.tables.proofs.Finds.{node-found, node-absent}
-use Rattle.soundness.specs.Counted.{nodeGood}
+use Rattle.tables.proofs.ReadyVolume.{rooms, count-nodes, count-entries}
+use Rattle.tables.proofs.TableSearch.{node-found, node-absent}
+use Rattle.soundness.specs.NodeRules.{nodeGood}
 use Rattle.soundness.specs.Counters.{bumped}
 
 -- ---- the row that a search finds
@@ -37,7 +38,7 @@ module _ (n : ℕ) (rs : List NodeRecord) where
   pub row-there : (i : ℕ) → At i ≡ foundNode n rs → (i < length rs) × (nodeAt rs i .node ≡ n)
   row-there i e =
       let f = node-found n rs i e in
-      (f .0, eqb-true (nodeAt rs i .node) n (found-passes (λ r. eqb (r .node) n) rs (nodeAt rs i) (f .1)))
+      (f .0, number-is n rs (nodeAt rs i) (f .1))
 
   module _ (a : Asc nodeBefore rs) (k : ℕ) (b : k < length rs) where
     -- and no other row has it
@@ -70,14 +71,14 @@ module _ (n : ℕ) (rs : List NodeRecord) where
 -- ---- one entry counted
 
 module _ (l : List ℕ) (y : Layout) (r : Ready l y) where
-  rows-low : length (shown l .nodes) ≤ 4096
+  rows-low : length (shown l .names .nodes) ≤ 4096
   rows-low = omega (arith, rooms l y r, count-nodes l)
 
-  entries-low : length (shown l .entries) ≤ 4096
+  entries-low : length (shown l .names .entries) ≤ 4096
   entries-low = omega (arith, rooms l y r, count-entries l)
 
-  pub row-counter : (n i : ℕ) → At i ≡ foundNode n (shown l .nodes) → i < 4096
-  row-counter n i e = omega (arith, row-there n (shown l .nodes) i e .0, rows-low)
+  pub row-counter : (n i : ℕ) → At i ≡ foundNode n (shown l .names .nodes) → i < 4096
+  row-counter n i e = omega (arith, row-there n (shown l .names .nodes) i e .0, rows-low)
 
 pub bumped-row : (f : Found) (m : List ℕ) (i : ℕ) → At i ≡ f → set m i (getD m i 0 + 1) ≡ bumped f m
 unfolding bumped
@@ -97,12 +98,12 @@ bumped-length Nothing m = refl
 -- key is what the entries are counted by
 module _ (key : Entry → ℕ) (l : List ℕ) where
   abbrev hasNumber : ℕ → Entry → Bool
-  hasNumber k e = eqb (key e) (nodeAt (shown l .nodes) k .node)
+  hasNumber k e = eqb (key e) (nodeAt (shown l .names .nodes) k .node)
 
   -- the first i entries are counted
   abbrev pub Counted : ℕ → List ℕ → Type 0
   Counted i m =
-      (i ≤ length (shown l .entries)) × (length m ≡ 4096) × ((k : ℕ) → k < length (shown l .nodes) → getD m k 0 ≡ tally i (λ j. hasNumber k (entryAt (shown l .entries) j)))
+      (i ≤ length (shown l .names .entries)) × (length m ≡ 4096) × ((k : ℕ) → k < length (shown l .names .nodes) → getD m k 0 ≡ tally i (λ j. hasNumber k (entryAt (shown l .names .entries) j)))
 
   module _ (y : Layout) (r : Ready l y) where
     pub counted-start : Counted 0 (replicate 4096 0)
@@ -111,18 +112,18 @@ module _ (key : Entry → ℕ) (l : List ℕ) where
 
     module _ (i : ℕ) (m : List ℕ) (c : Counted i m) where
       -- counters stay small
-      pub counted-low : (k : ℕ) → k < length (shown l .nodes) → getD m k 0 ≤ 4096
-      counted-low k b = omega (arith, c .0, c .2 k b, tally-le (λ j. hasNumber k (entryAt (shown l .entries) j)) i, entries-low l y r)
+      pub counted-low : (k : ℕ) → k < length (shown l .names .nodes) → getD m k 0 ≤ 4096
+      counted-low k b = omega (arith, c .0, c .2 k b, tally-le (λ j. hasNumber k (entryAt (shown l .names .entries) j)) i, entries-low l y r)
 
-      pub counted-turn : Asc nodeBefore (shown l .nodes) → i < length (shown l .entries) → {x : ℕ} {t : List ℕ} → x ≡ key (entryAt (shown l .entries) i) → t ≡ bumped (foundNode x (shown l .nodes)) m → Counted (i + 1) t
+      pub counted-turn : Asc nodeBefore (shown l .names .nodes) → i < length (shown l .names .entries) → {x : ℕ} {t : List ℕ} → x ≡ key (entryAt (shown l .names .entries) i) → t ≡ bumped (foundNode x (shown l .names .nodes)) m → Counted (i + 1) t
       counted-turn a h {x} e q = (
         omega arith,
-        ap length q ∙ bumped-length (foundNode x (shown l .nodes)) m ∙ c .1,
-        λ k b. rw q (bumped-at x (shown l .nodes) a k b m (omega (arith, c .1, rows-low l y r)) ∙ tally-turn (λ j. hasNumber k (entryAt (shown l .entries) j)) i (c .2 k b) (ap (λ (n : ℕ). bit (eqb n (nodeAt (shown l .nodes) k .node))) e)),
+        ap length q ∙ bumped-length (foundNode x (shown l .names .nodes)) m ∙ c .1,
+        λ k b. rw q (bumped-at x (shown l .names .nodes) a k b m (omega (arith, c .1, rows-low l y r)) ∙ tally-turn (λ j. hasNumber k (entryAt (shown l .names .entries) j)) i (c .2 k b) (ap (λ (n : ℕ). bit (eqb n (nodeAt (shown l .names .nodes) k .node))) e)),
       )
 
-      pub counted-end : i ≡ length (shown l .entries) → (length m ≡ 4096) × ((k : ℕ) → k < length (shown l .nodes) → (getD m k 0 ≡ times (hasNumber k) (shown l .entries)) × (getD m k 0 ≤ 4096))
-      counted-end h = (c .1, λ k b. (c .2 k b ∙ rw h (tally-times (hasNumber k) (readEntry []) (shown l .entries)), counted-low k b))
+      pub counted-end : i ≡ length (shown l .names .entries) → (length m ≡ 4096) × ((k : ℕ) → k < length (shown l .names .nodes) → (getD m k 0 ≡ times (hasNumber k) (shown l .names .entries)) × (getD m k 0 ≤ 4096))
+      counted-end h = (c .1, λ k b. (c .2 k b ∙ rw h (tally-times (hasNumber k) (readEntry []) (shown l .names .entries)), counted-low k b))
 
 -- ---- a node's row with its counts
 

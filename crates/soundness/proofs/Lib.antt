@@ -1,9 +1,8 @@
-pub mod Frames
-pub mod Orders
-pub mod Related
+pub mod FrameRules
+pub mod OrderRules
+pub mod EntryRules
+pub mod NodeRules
 pub mod Counters
-pub mod Counts
-pub mod Accounted
-pub mod FreeWords
-pub mod Owned
+pub mod PointerRules
+pub mod OwnerRules
 pub mod Checked

@@ -1,8 +1,9 @@
-// The whole check: the frame, then the rules of the tables in the scope's order.
+// The whole check: the frame, then nodes and entries, the chunk store, and the owners of the chunks; each in the scope's order.
 use crate::entries::names_once;
 use crate::entries::parents_good;
 use crate::entries::targets_found;
-use crate::frame::is_framed;
+use crate::frame::is_formed;
+use crate::frame::is_headed;
 use crate::nodes::nodes_good;
 use crate::order::chunks_ascend;
 use crate::order::entries_ascend;
@@ -12,37 +13,33 @@ use crate::order::names_allowed;
 use crate::order::nodes_ascend;
 use crate::order::nodes_below_next;
 use crate::order::root_unnamed;
-use crate::owners::chunks_owned;
+use crate::owners::is_owned;
 use crate::pointers::next_fits;
 use crate::pointers::pointers_good;
 use volume::Layout;
+use volume::Place;
 ghost use mathlib.Core.Path.{_≡_};
-ghost use Prim.Native.Nat.{_≤_};
-ghost use Rattle.words.specs.Table.{Each, Asc};
-ghost use Rattle.types.specs.Sizes.{mostSize};
+ghost use Rattle.words.specs.Tables.{Asc};
 ghost use Rattle.volume.specs.Volume.{shown};
 ghost use Rattle.volume.specs.Sound.{nodeBefore, entryBefore};
 ghost use Rattle.tables.specs.Tables.{Ready};
-ghost use Rattle.soundness.specs.Check.{ordered, numbered, related, stored, good, sound};
+ghost use Rattle.soundness.specs.Checked.{ordered, numbered, related, named, stored, good, opened};
 
-// Rows strictly ascend.
+// Whether the rows of nodes and of entries strictly ascend.
 fn is_ordered(volume: &[u8], layout: Layout) -> bool
     requires { ⌜ Ready (now volume) layout ⌝ }
-    ensures { λ r. ⌜ r ≡ ordered (shown (now (volume .entry))) ⌝ }
+    ensures { λ r. ⌜ r ≡ ordered (shown (now (volume .entry)) .names) ⌝ }
 {
     if !nodes_ascend(volume, layout) {
         return false;
     }
-    if !entries_ascend(volume, layout) {
-        return false;
-    }
-    chunks_ascend(volume, layout)
+    entries_ascend(volume, layout)
 }
 
-// Indexes, next node, node 0, names.
+// Whether the entries' indexes, the next node, node 0 and the names are as they must be.
 fn is_numbered(volume: &[u8], layout: Layout) -> bool
     requires { ⌜ Ready (now volume) layout ⌝ }
-    ensures { λ r. ⌜ r ≡ numbered (shown (now (volume .entry))) ⌝ }
+    ensures { λ r. ⌜ r ≡ numbered (shown (now (volume .entry)) .names) ⌝ }
 {
     if !entries_indexed(volume, layout) {
         return false;
@@ -59,10 +56,10 @@ fn is_numbered(volume: &[u8], layout: Layout) -> bool
     names_allowed(volume, layout)
 }
 
-// Entries and the nodes they name.
+// Whether entries and the nodes they name agree. Both tables have to ascend: their rows are searched.
 fn is_related(volume: &[u8], layout: Layout) -> bool
-    requires { ⌜ Ready (now volume) layout × Asc nodeBefore (shown (now volume) .nodes) × Asc entryBefore (shown (now volume) .entries) ⌝ }
-    ensures { λ r. ⌜ r ≡ related (shown (now (volume .entry))) ⌝ }
+    requires { ⌜ Ready (now volume) layout × Asc nodeBefore (shown (now volume) .names .nodes) × Asc entryBefore (shown (now volume) .names .entries) ⌝ }
+    ensures { λ r. ⌜ r ≡ related (shown (now (volume .entry)) .names) ⌝ }
 {
     if !parents_good(volume, layout) {
         return false;
@@ -76,28 +73,10 @@ fn is_related(volume: &[u8], layout: Layout) -> bool
     nodes_good(volume, layout)
 }
 
-// Word 3, pointers, chunk rows.
-fn is_stored(volume: &[u8], layout: Layout) -> bool
-    requires { ⌜ Ready (now volume) layout × Asc nodeBefore (shown (now volume) .nodes) × Each (λ r. r .size ≤ mostSize) (shown (now volume) .nodes) ⌝ }
-    ensures { λ r. ⌜ r ≡ stored (shown (now (volume .entry))) ⌝ }
-{
-    let size = tables::chunk_size(volume, layout);
-    let next = tables::max_ptr(volume, layout);
-    let area = tables::area_size(volume, layout) as u64;
-    let chunks = tables::chunk_room(volume, layout) as u64;
-    if !next_fits(size, next, area, chunks) {
-        return false;
-    }
-    let count = tables::free_count(volume, layout) as usize;
-    if !pointers_good(volume, layout, count, size, next) {
-        return false;
-    }
-    chunks_owned(volume, layout, size)
-}
-
-fn is_good(volume: &[u8], layout: Layout) -> bool
+// Whether all rules of nodes and entries hold.
+fn is_named(volume: &[u8], layout: Layout) -> bool
     requires { ⌜ Ready (now volume) layout ⌝ }
-    ensures { λ r. ⌜ r ≡ good (shown (now (volume .entry))) ⌝ }
+    ensures { λ r. ⌜ r ≡ named (shown (now (volume .entry)) .names) ⌝ }
 {
     if !is_ordered(volume, layout) {
         return false;
@@ -105,19 +84,54 @@ fn is_good(volume: &[u8], layout: Layout) -> bool
     if !is_numbered(volume, layout) {
         return false;
     }
-    if !is_related(volume, layout) {
-        return false;
-    }
-    is_stored(volume, layout)
+    is_related(volume, layout)
 }
 
-// Whether a memory, of any length and content, is a sound volume.
-pub fn sound(volume: &[u8]) -> bool
-    ensures { λ r. ⌜ r ≡ sound (now (volume .entry)) ⌝ }
+// Whether the rules of the chunk store hold: the rows' order, word 3, and the pointers. The chunk size was read.
+fn is_stored(volume: &[u8], layout: Layout, span: u64) -> bool
+    requires { ⌜ Ready (now volume) layout × (span ≡ shown (now volume) .store .allocator .chunkSize) ⌝ }
+    ensures { λ r. ⌜ r ≡ stored (shown (now (volume .entry)) .store) ⌝ }
 {
-    if !is_framed(volume) {
+    if !chunks_ascend(volume, layout) {
         return false;
     }
+    let next = tables::max_ptr(volume, layout);
+    let area = tables::area_size(volume, layout) as u64;
+    let chunks = tables::chunk_room(volume, layout) as u64;
+    if !next_fits(span, next, area, chunks) {
+        return false;
+    }
+    pointers_good(volume, layout, span, next)
+}
+
+// Whether all rules of the tables hold.
+fn is_good(volume: &[u8], layout: Layout) -> bool
+    requires { ⌜ Ready (now volume) layout ⌝ }
+    ensures { λ r. ⌜ r ≡ good (shown (now (volume .entry))) ⌝ }
+{
+    if !is_named(volume, layout) {
+        return false;
+    }
+    let span = tables::chunk_size(volume, layout);
+    if !is_stored(volume, layout, span) {
+        return false;
+    }
+    is_owned(volume, layout, span)
+}
+
+// Opens a memory, of any length and content: where its areas start if it is a sound volume, else nowhere.
+pub fn open(volume: &[u8]) -> Place
+    ensures { λ r. ⌜ r ≡ opened (now (volume .entry)) ⌝ }
+{
+    if !is_headed(volume) {
+        return Place::Nowhere;
+    }
     let layout = volume::read_layout(volume);
-    is_good(volume, layout)
+    if !is_formed(volume, layout) {
+        return Place::Nowhere;
+    }
+    if !is_good(volume, layout) {
+        return Place::Nowhere;
+    }
+    Place::At(layout)
 }

@@ -1,24 +1,22 @@
 // The form of the bytes. Nothing in them is trusted: no number read is used before it is tested.
+use volume::Layout;
 use volume::Place;
 ghost use mathlib.Core.Path.{_≡_};
 ghost use mathlib.Core.Bool.{true};
 ghost use Prim.Native.Nat.{_+_, _*_, _≤_};
 ghost use lib.ListN.{length};
-ghost use Rattle.words.specs.Rule.{upto};
+ghost use Rattle.words.specs.Bytes.{word};
+ghost use Rattle.words.specs.Rules.{upto};
+ghost use Rattle.volume.specs.Geometry.{layoutOf};
 ghost use Rattle.volume.specs.Framed.{Headed};
 ghost use Rattle.volume.specs.RowTests.{nodeFormed, entryFormed};
-ghost use Rattle.soundness.specs.Frame.{headed, marked, rowsFormed, formed, framed};
+ghost use Rattle.soundness.specs.FrameRules.{headed, marked, rowsFormed, formed};
 
-// The header's bytes.
-const HEADER: usize = 64;
+// The header's bytes: the allocator's words stand behind it.
+const HEADER: usize = volume::ALLOCATOR;
 
-// Where the allocator's words start, and what stands before its free pointers.
-const ALLOCATOR: usize = HEADER;
-
-const ALLOCATOR_HEAD: usize = types::WORD * types::ALLOCATOR_WORDS;
-
-// The form, the geometry and the length, used counts that fit.
-fn is_headed(volume: &[u8]) -> bool
+// Whether the header has the form, a geometry that fits the length, and used counts that fit the rooms.
+pub fn is_headed(volume: &[u8]) -> bool
     ensures { λ r. ⌜ r ≡ headed (now (volume .entry)) ⌝ }
 {
     if volume.len() < HEADER {
@@ -43,24 +41,24 @@ fn is_headed(volume: &[u8]) -> bool
     words::get64(volume, volume::CHUNKS_USED) <= chunks
 }
 
-// The allocator's marker, chunk size and free count; its words are a part of the volume that starts in its middle.
-fn is_marked(volume: &[u8]) -> bool
-    requires { ⌜ Headed (now volume) ⌝ }
+// Whether the allocator's words have the marker, an accepted chunk size and a free count that fits. They are a part of the volume that
+// starts in its middle: they end where the node rows begin.
+fn is_marked(volume: &[u8], layout: Layout) -> bool
+    requires { ⌜ Headed (now volume) × (layout ≡ layoutOf (word (now volume) 8) (word (now volume) 16) (word (now volume) 24)) ⌝ }
     ensures { λ r. ⌜ r ≡ marked (now (volume .entry)) ⌝ }
 {
-    let chunks = words::get64(volume, volume::CHUNK_ROOM) as usize;
-    let size = ALLOCATOR_HEAD + types::WORD * chunks;
-    allocator::is_marked(&volume[ALLOCATOR..ALLOCATOR + size])
+    let end = layout.nodes;
+    allocator::is_marked(&volume[volume::ALLOCATOR..end])
 }
 
-// Whether the rows in use can be nodes' rows.
+// Whether the node rows in use have the form of one.
 fn node_rows(volume: &[u8], base: usize, used: usize) -> bool
     requires { ⌜ base + 40 * used ≤ length (now volume) ⌝ }
     ensures { λ r. ⌜ r ≡ upto used (λ i. nodeFormed (now (volume .entry)) (base + 40 * i)) ⌝ }
 {
     let mut i = 0;
     while i < used {
-        if !volume::node_formed(volume, base + types::NODE_ROW * i) {
+        if !volume::node_formed(volume, base + volume::NODE_ROW * i) {
             return false;
         }
         i += 1;
@@ -68,7 +66,7 @@ fn node_rows(volume: &[u8], base: usize, used: usize) -> bool
     true
 }
 
-// The same, and the rows that are not in use are zero.
+// Whether the node rows in use have the form of one, and the others are zero.
 fn nodes_formed(volume: &[u8], base: usize, used: usize, room: usize) -> bool
     requires { ⌜ (used ≤ room) × (base + 40 * room ≤ length (now volume)) ⌝ }
     ensures { λ r. ⌜ r ≡ rowsFormed (nodeFormed (now (volume .entry))) 40 (now (volume .entry)) base used room ⌝ }
@@ -76,18 +74,19 @@ fn nodes_formed(volume: &[u8], base: usize, used: usize, room: usize) -> bool
     if !node_rows(volume, base, used) {
         return false;
     }
-    let rest = base + types::NODE_ROW * used;
-    let unused = types::NODE_ROW * (room - used);
+    let rest = base + volume::NODE_ROW * used;
+    let unused = volume::NODE_ROW * (room - used);
     words::is_zero(&volume[rest..rest + unused])
 }
 
+// Whether the entry rows in use have the form of one.
 fn entry_rows(volume: &[u8], base: usize, used: usize) -> bool
     requires { ⌜ base + 280 * used ≤ length (now volume) ⌝ }
     ensures { λ r. ⌜ r ≡ upto used (λ i. entryFormed (now (volume .entry)) (base + 280 * i)) ⌝ }
 {
     let mut i = 0;
     while i < used {
-        if !volume::entry_formed(volume, base + types::ENTRY_ROW * i) {
+        if !volume::entry_formed(volume, base + volume::ENTRY_ROW * i) {
             return false;
         }
         i += 1;
@@ -95,6 +94,7 @@ fn entry_rows(volume: &[u8], base: usize, used: usize) -> bool
     true
 }
 
+// Whether the entry rows in use have the form of one, and the others are zero.
 fn entries_formed(volume: &[u8], base: usize, used: usize, room: usize) -> bool
     requires { ⌜ (used ≤ room) × (base + 280 * room ≤ length (now volume)) ⌝ }
     ensures { λ r. ⌜ r ≡ rowsFormed (entryFormed (now (volume .entry))) 280 (now (volume .entry)) base used room ⌝ }
@@ -102,30 +102,29 @@ fn entries_formed(volume: &[u8], base: usize, used: usize, room: usize) -> bool
     if !entry_rows(volume, base, used) {
         return false;
     }
-    let rest = base + types::ENTRY_ROW * used;
-    let unused = types::ENTRY_ROW * (room - used);
+    let rest = base + volume::ENTRY_ROW * used;
+    let unused = volume::ENTRY_ROW * (room - used);
     words::is_zero(&volume[rest..rest + unused])
 }
 
-// Any bytes can be a chunk's row; what they say is for the rules of the rows.
+// Whether the chunk rows that are not in use are zero. The others may have any bytes: what they say is for the rules of the rows.
 fn chunks_formed(volume: &[u8], base: usize, used: usize, room: usize) -> bool
     requires { ⌜ (used ≤ room) × (base + 24 * room ≤ length (now volume)) ⌝ }
     ensures { λ r. ⌜ r ≡ rowsFormed (λ _. true) 24 (now (volume .entry)) base used room ⌝ }
 {
-    let rest = base + types::CHUNK_ROW * used;
-    let unused = types::CHUNK_ROW * (room - used);
+    let rest = base + volume::CHUNK_ROW * used;
+    let unused = volume::CHUNK_ROW * (room - used);
     words::is_zero(&volume[rest..rest + unused])
 }
 
-// The marker, and the rows' form.
-fn is_formed(volume: &[u8]) -> bool
-    requires { ⌜ Headed (now volume) ⌝ }
+// Whether the allocator's words and the rows of each table have their form.
+pub fn is_formed(volume: &[u8], layout: Layout) -> bool
+    requires { ⌜ Headed (now volume) × (layout ≡ layoutOf (word (now volume) 8) (word (now volume) 16) (word (now volume) 24)) ⌝ }
     ensures { λ r. ⌜ r ≡ formed (now (volume .entry)) ⌝ }
 {
-    if !is_marked(volume) {
+    if !is_marked(volume, layout) {
         return false;
     }
-    let layout = volume::read_layout(volume);
     if !nodes_formed(
         volume,
         layout.nodes,
@@ -148,13 +147,4 @@ fn is_formed(volume: &[u8]) -> bool
         words::get64(volume, volume::CHUNKS_USED) as usize,
         words::get64(volume, volume::CHUNK_ROOM) as usize,
     )
-}
-
-pub fn is_framed(volume: &[u8]) -> bool
-    ensures { λ r. ⌜ r ≡ framed (now (volume .entry)) ⌝ }
-{
-    if !is_headed(volume) {
-        return false;
-    }
-    is_formed(volume)
 }

@@ -1,4 +1,5 @@
-// Whether a memory is a sound volume: one function for each rule of the scope, in its order.
+// Whether a memory is a sound volume. Module frame tests the form of the bytes, the others have a function for each rule of the tables,
+// and check calls them in turn.
 mod check;
 mod entries;
 mod frame;
@@ -7,4 +8,4 @@ mod order;
 mod owners;
 mod pointers;
 
-pub use check::sound;
+pub use check::open;

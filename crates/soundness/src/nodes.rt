@@ -6,29 +6,27 @@ ghost use mathlib.Core.Path.{_≡_};
 ghost use Prim.Native.Nat.{ℕ, _+_, _≤_, _<_};
 ghost use lib.ListN.{length, getD};
 ghost use lib.Dec.{eqb};
-ghost use Rattle.words.specs.Table.{Asc};
-ghost use Rattle.words.specs.Rule.{bit};
+ghost use Rattle.words.specs.Tables.{Asc};
+ghost use Rattle.words.specs.Rules.{bit};
 ghost use Rattle.volume.specs.Volume.{shown};
 ghost use Rattle.volume.specs.Sound.{naming, entriesOf, nodeBefore};
 ghost use Rattle.tables.specs.Tables.{Ready, nodeAt, foundNode};
-ghost use Rattle.soundness.specs.Counted.{directoryGood, nodeGood, nodesGood};
+ghost use Rattle.soundness.specs.NodeRules.{directoryGood, nodeGood, nodesGood};
 ghost use Rattle.soundness.specs.Counters.{bumped};
 
 // As many counters as a table may have rows.
 const COUNTERS: usize = types::MOST_ROWS as usize;
 
+// The root's number.
 const ROOT: u64 = 0;
 
 // The most entries that may name a directory.
 const MOST_NAMES: u64 = 1;
 
-// The flag of a node without a limit.
-const NO_LIMIT: u8 = 0;
-
-// One more for the row of a node. A node that has none counts nowhere: another rule refuses it.
+// Adds one to the counter of a node's row. A node that has no row counts nowhere: another rule refuses it.
 fn count_node(volume: &[u8], layout: Layout, counts: &mut [u16; COUNTERS], node: u64)
-    requires { ⌜ Ready (now volume) layout × Asc nodeBefore (shown (now volume) .nodes) × ((k : ℕ) → k < length (shown (now volume) .nodes) → getD (now counts) k 0 ≤ 4096) ⌝ }
-    ensures { λ _. ⌜ now (counts .exit) ≡ bumped (foundNode node (shown (now (volume .entry)) .nodes)) (now (counts .entry)) ⌝ }
+    requires { ⌜ Ready (now volume) layout × Asc nodeBefore (shown (now volume) .names .nodes) × ((k : ℕ) → k < length (shown (now volume) .names .nodes) → getD (now counts) k 0 ≤ 4096) ⌝ }
+    ensures { λ _. ⌜ now (counts .exit) ≡ bumped (foundNode node (shown (now (volume .entry)) .names .nodes)) (now (counts .entry)) ⌝ }
 {
     let found = tables::find_node(volume, layout, node);
     match found {
@@ -41,8 +39,8 @@ fn count_node(volume: &[u8], layout: Layout, counts: &mut [u16; COUNTERS], node:
 
 // How many entries name the node of each row.
 fn count_named(volume: &[u8], layout: Layout) -> [u16; COUNTERS]
-    requires { ⌜ Ready (now volume) layout × Asc nodeBefore (shown (now volume) .nodes) ⌝ }
-    ensures { λ r. ⌜ (length r ≡ 4096) × ((k : ℕ) → k < length (shown (now (volume .entry)) .nodes) → (getD r k 0 ≡ naming (nodeAt (shown (now (volume .entry)) .nodes) k .node) (shown (now (volume .entry)) .entries)) × (getD r k 0 ≤ 4096)) ⌝ }
+    requires { ⌜ Ready (now volume) layout × Asc nodeBefore (shown (now volume) .names .nodes) ⌝ }
+    ensures { λ r. ⌜ (length r ≡ 4096) × ((k : ℕ) → k < length (shown (now (volume .entry)) .names .nodes) → (getD r k 0 ≡ naming (nodeAt (shown (now (volume .entry)) .names .nodes) k .node) (shown (now (volume .entry)) .names .entries)) × (getD r k 0 ≤ 4096)) ⌝ }
 {
     let mut counts = [0u16; COUNTERS];
     let used = tables::entries_used(volume, layout);
@@ -59,10 +57,10 @@ fn count_named(volume: &[u8], layout: Layout) -> [u16; COUNTERS]
     counts
 }
 
-// How many entries the node of each row has.
+// How many entries have the node of each row as their parent.
 fn count_held(volume: &[u8], layout: Layout) -> [u16; COUNTERS]
-    requires { ⌜ Ready (now volume) layout × Asc nodeBefore (shown (now volume) .nodes) ⌝ }
-    ensures { λ r. ⌜ (length r ≡ 4096) × ((k : ℕ) → k < length (shown (now (volume .entry)) .nodes) → (getD r k 0 ≡ entriesOf (nodeAt (shown (now (volume .entry)) .nodes) k .node) (shown (now (volume .entry)) .entries)) × (getD r k 0 ≤ 4096)) ⌝ }
+    requires { ⌜ Ready (now volume) layout × Asc nodeBefore (shown (now volume) .names .nodes) ⌝ }
+    ensures { λ r. ⌜ (length r ≡ 4096) × ((k : ℕ) → k < length (shown (now (volume .entry)) .names .nodes) → (getD r k 0 ≡ entriesOf (nodeAt (shown (now (volume .entry)) .names .nodes) k .node) (shown (now (volume .entry)) .names .entries)) × (getD r k 0 ≤ 4096)) ⌝ }
 {
     let mut counts = [0u16; COUNTERS];
     let used = tables::entries_used(volume, layout);
@@ -79,7 +77,7 @@ fn count_held(volume: &[u8], layout: Layout) -> [u16; COUNTERS]
     counts
 }
 
-// A directory is named at most once, has no limit, and has a size of its entries: none, if it has no link.
+// Whether a directory is named at most once, has no limit, and a size equal to its number of entries, which is 0 if it has no link.
 fn directory_good(named: u64, held: u64, row: NodeRecord) -> bool
     ensures { λ r. ⌜ r ≡ directoryGood named held row ⌝ }
 {
@@ -87,7 +85,7 @@ fn directory_good(named: u64, held: u64, row: NodeRecord) -> bool
         return false;
     }
     let limit = row.limit;
-    if types::limit_flag(limit) != NO_LIMIT {
+    if !types::is_unlimited(limit) {
         return false;
     }
     if row.size != held {
@@ -109,7 +107,7 @@ fn root_bit(node: u64) -> u64
     0
 }
 
-// Links are the entries that name the node, and the size is within the file limit.
+// Whether the links are the entries that name the node, the size is within the file limit, and a directory is a good one.
 fn node_good(named: u64, held: u64, row: NodeRecord) -> bool
     requires { ⌜ named ≤ 4096 ⌝ }
     ensures { λ r. ⌜ r ≡ nodeGood named held row ⌝ }
@@ -128,10 +126,10 @@ fn node_good(named: u64, held: u64, row: NodeRecord) -> bool
     true
 }
 
-// Every node's row agrees with the entries. Rows of nodes have to ascend, so that a number has one row.
+// Whether every node's row agrees with the entries. Rows of nodes have to ascend, so that a number has one row.
 pub fn nodes_good(volume: &[u8], layout: Layout) -> bool
-    requires { ⌜ Ready (now volume) layout × Asc nodeBefore (shown (now volume) .nodes) ⌝ }
-    ensures { λ r. ⌜ r ≡ nodesGood (shown (now (volume .entry)) .nodes) (shown (now (volume .entry)) .entries) ⌝ }
+    requires { ⌜ Ready (now volume) layout × Asc nodeBefore (shown (now volume) .names .nodes) ⌝ }
+    ensures { λ r. ⌜ r ≡ nodesGood (shown (now (volume .entry)) .names .nodes) (shown (now (volume .entry)) .names .entries) ⌝ }
 {
     let named = count_named(volume, layout);
     let held = count_held(volume, layout);

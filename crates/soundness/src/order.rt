@@ -9,11 +9,12 @@ ghost use Rattle.paths.specs.Path.{nameAllowed};
 ghost use Rattle.volume.specs.Search.{pairBefore};
 ghost use Rattle.volume.specs.Volume.{shown};
 ghost use Rattle.tables.specs.Tables.{Ready, nodeAt, entryAt, chunkAt};
-ghost use Rattle.soundness.specs.Order.{nodesAscend, entriesAscend, chunksAscend, indexed, nodesBelow, rooted, rootUnnamed, namesAllowed};
+ghost use Rattle.soundness.specs.OrderRules.{nodesAscend, entriesAscend, chunksAscend, indexed, nodesBelow, rooted, rootUnnamed, namesAllowed};
 
-// The root's node, and the place of its row.
+// The root's number.
 const ROOT: u64 = 0;
 
+// The place of its row: rows ascend by number.
 const ROOT_ROW: usize = 0;
 
 // The least index that an entry has.
@@ -21,15 +22,16 @@ const LEAST_INDEX: u64 = 1;
 
 // Whether node row i stands before the next one.
 fn node_ascends(volume: &[u8], layout: Layout, i: usize) -> bool
-    requires { ⌜ Ready (now volume) layout × (i + 1 < length (shown (now volume) .nodes)) ⌝ }
-    ensures { λ r. ⌜ r ≡ ltb (nodeAt (shown (now (volume .entry)) .nodes) i .node) (nodeAt (shown (now (volume .entry)) .nodes) (i + 1) .node) ⌝ }
+    requires { ⌜ Ready (now volume) layout × (i + 1 < length (shown (now volume) .names .nodes)) ⌝ }
+    ensures { λ r. ⌜ r ≡ ltb (nodeAt (shown (now (volume .entry)) .names .nodes) i .node) (nodeAt (shown (now (volume .entry)) .names .nodes) (i + 1) .node) ⌝ }
 {
     tables::node_number(volume, layout, i) < tables::node_number(volume, layout, i + 1)
 }
 
+// Whether the node rows strictly ascend by number.
 pub fn nodes_ascend(volume: &[u8], layout: Layout) -> bool
     requires { ⌜ Ready (now volume) layout ⌝ }
-    ensures { λ r. ⌜ r ≡ nodesAscend (shown (now (volume .entry)) .nodes) ⌝ }
+    ensures { λ r. ⌜ r ≡ nodesAscend (shown (now (volume .entry)) .names .nodes) ⌝ }
 {
     let used = tables::nodes_used(volume, layout);
     let mut i = 0;
@@ -44,8 +46,8 @@ pub fn nodes_ascend(volume: &[u8], layout: Layout) -> bool
 
 // Whether entry row i stands before the next one.
 fn entry_ascends(volume: &[u8], layout: Layout, i: usize) -> bool
-    requires { ⌜ Ready (now volume) layout × (i + 1 < length (shown (now volume) .entries)) ⌝ }
-    ensures { λ r. ⌜ r ≡ pairBefore (entryAt (shown (now (volume .entry)) .entries) i .parent) (entryAt (shown (now (volume .entry)) .entries) i .index) (entryAt (shown (now (volume .entry)) .entries) (i + 1) .parent) (entryAt (shown (now (volume .entry)) .entries) (i + 1) .index) ⌝ }
+    requires { ⌜ Ready (now volume) layout × (i + 1 < length (shown (now volume) .names .entries)) ⌝ }
+    ensures { λ r. ⌜ r ≡ pairBefore (entryAt (shown (now (volume .entry)) .names .entries) i .parent) (entryAt (shown (now (volume .entry)) .names .entries) i .index) (entryAt (shown (now (volume .entry)) .names .entries) (i + 1) .parent) (entryAt (shown (now (volume .entry)) .names .entries) (i + 1) .index) ⌝ }
 {
     volume::pair_before(
         tables::entry_parent(volume, layout, i),
@@ -55,9 +57,10 @@ fn entry_ascends(volume: &[u8], layout: Layout, i: usize) -> bool
     )
 }
 
+// Whether the entry rows strictly ascend by parent and index.
 pub fn entries_ascend(volume: &[u8], layout: Layout) -> bool
     requires { ⌜ Ready (now volume) layout ⌝ }
-    ensures { λ r. ⌜ r ≡ entriesAscend (shown (now (volume .entry)) .entries) ⌝ }
+    ensures { λ r. ⌜ r ≡ entriesAscend (shown (now (volume .entry)) .names .entries) ⌝ }
 {
     let used = tables::entries_used(volume, layout);
     let mut i = 0;
@@ -72,17 +75,18 @@ pub fn entries_ascend(volume: &[u8], layout: Layout) -> bool
 
 // Whether chunk row i stands before the next one.
 fn chunk_ascends(volume: &[u8], layout: Layout, i: usize) -> bool
-    requires { ⌜ Ready (now volume) layout × (i + 1 < length (shown (now volume) .chunks)) ⌝ }
-    ensures { λ r. ⌜ r ≡ pairBefore (chunkAt (shown (now (volume .entry)) .chunks) i .node) (chunkAt (shown (now (volume .entry)) .chunks) i .index) (chunkAt (shown (now (volume .entry)) .chunks) (i + 1) .node) (chunkAt (shown (now (volume .entry)) .chunks) (i + 1) .index) ⌝ }
+    requires { ⌜ Ready (now volume) layout × (i + 1 < length (shown (now volume) .store .chunks)) ⌝ }
+    ensures { λ r. ⌜ r ≡ pairBefore (chunkAt (shown (now (volume .entry)) .store .chunks) i .node) (chunkAt (shown (now (volume .entry)) .store .chunks) i .index) (chunkAt (shown (now (volume .entry)) .store .chunks) (i + 1) .node) (chunkAt (shown (now (volume .entry)) .store .chunks) (i + 1) .index) ⌝ }
 {
     let here = tables::chunk_row(volume, layout, i);
     let next = tables::chunk_row(volume, layout, i + 1);
     volume::pair_before(here.node, here.index, next.node, next.index)
 }
 
+// Whether the chunk rows strictly ascend by node and index.
 pub fn chunks_ascend(volume: &[u8], layout: Layout) -> bool
     requires { ⌜ Ready (now volume) layout ⌝ }
-    ensures { λ r. ⌜ r ≡ chunksAscend (shown (now (volume .entry)) .chunks) ⌝ }
+    ensures { λ r. ⌜ r ≡ chunksAscend (shown (now (volume .entry)) .store .chunks) ⌝ }
 {
     let used = tables::chunks_used(volume, layout);
     let mut i = 0;
@@ -95,17 +99,18 @@ pub fn chunks_ascend(volume: &[u8], layout: Layout) -> bool
     true
 }
 
-// Whether the entry in row i has an index.
+// Whether the index of the entry in row i is at least 1.
 fn entry_indexed(volume: &[u8], layout: Layout, i: usize) -> bool
-    requires { ⌜ Ready (now volume) layout × (i < length (shown (now volume) .entries)) ⌝ }
-    ensures { λ r. ⌜ r ≡ leb 1 (entryAt (shown (now (volume .entry)) .entries) i .index) ⌝ }
+    requires { ⌜ Ready (now volume) layout × (i < length (shown (now volume) .names .entries)) ⌝ }
+    ensures { λ r. ⌜ r ≡ leb 1 (entryAt (shown (now (volume .entry)) .names .entries) i .index) ⌝ }
 {
     LEAST_INDEX <= tables::entry_index(volume, layout, i)
 }
 
+// Whether every entry's index is at least 1.
 pub fn entries_indexed(volume: &[u8], layout: Layout) -> bool
     requires { ⌜ Ready (now volume) layout ⌝ }
-    ensures { λ r. ⌜ r ≡ indexed (shown (now (volume .entry)) .entries) ⌝ }
+    ensures { λ r. ⌜ r ≡ indexed (shown (now (volume .entry)) .names .entries) ⌝ }
 {
     let used = tables::entries_used(volume, layout);
     let mut i = 0;
@@ -118,17 +123,18 @@ pub fn entries_indexed(volume: &[u8], layout: Layout) -> bool
     true
 }
 
-// Whether the node in row i lies below the next node.
+// Whether the number of the node in row i is below next node.
 fn node_below(volume: &[u8], layout: Layout, i: usize, next: u64) -> bool
-    requires { ⌜ Ready (now volume) layout × (i < length (shown (now volume) .nodes)) ⌝ }
-    ensures { λ r. ⌜ r ≡ ltb (nodeAt (shown (now (volume .entry)) .nodes) i .node) next ⌝ }
+    requires { ⌜ Ready (now volume) layout × (i < length (shown (now volume) .names .nodes)) ⌝ }
+    ensures { λ r. ⌜ r ≡ ltb (nodeAt (shown (now (volume .entry)) .names .nodes) i .node) next ⌝ }
 {
     tables::node_number(volume, layout, i) < next
 }
 
+// Whether next node exceeds every node.
 pub fn nodes_below_next(volume: &[u8], layout: Layout) -> bool
     requires { ⌜ Ready (now volume) layout ⌝ }
-    ensures { λ r. ⌜ r ≡ nodesBelow (shown (now (volume .entry)) .nextNode) (shown (now (volume .entry)) .nodes) ⌝ }
+    ensures { λ r. ⌜ r ≡ nodesBelow (shown (now (volume .entry)) .names .nextNode) (shown (now (volume .entry)) .names .nodes) ⌝ }
 {
     let used = tables::nodes_used(volume, layout);
     let next = tables::next_node(volume, layout);
@@ -142,9 +148,10 @@ pub fn nodes_below_next(volume: &[u8], layout: Layout) -> bool
     true
 }
 
+// Whether the first node row is node 0, a directory.
 pub fn is_rooted(volume: &[u8], layout: Layout) -> bool
     requires { ⌜ Ready (now volume) layout ⌝ }
-    ensures { λ r. ⌜ r ≡ rooted (shown (now (volume .entry)) .nodes) ⌝ }
+    ensures { λ r. ⌜ r ≡ rooted (shown (now (volume .entry)) .names .nodes) ⌝ }
 {
     if tables::nodes_used(volume, layout) <= ROOT_ROW {
         return false;
@@ -157,17 +164,18 @@ pub fn is_rooted(volume: &[u8], layout: Layout) -> bool
     types::is_directory(kind)
 }
 
-// Whether the entry in row i names another node than the root.
+// Whether the entry in row i does not name the root.
 fn entry_unrooted(volume: &[u8], layout: Layout, i: usize) -> bool
-    requires { ⌜ Ready (now volume) layout × (i < length (shown (now volume) .entries)) ⌝ }
-    ensures { λ r. ⌜ r ≡ not (eqb (entryAt (shown (now (volume .entry)) .entries) i .node) 0) ⌝ }
+    requires { ⌜ Ready (now volume) layout × (i < length (shown (now volume) .names .entries)) ⌝ }
+    ensures { λ r. ⌜ r ≡ not (eqb (entryAt (shown (now (volume .entry)) .names .entries) i .node) 0) ⌝ }
 {
     tables::entry_node(volume, layout, i) != ROOT
 }
 
+// Whether no entry names the root.
 pub fn root_unnamed(volume: &[u8], layout: Layout) -> bool
     requires { ⌜ Ready (now volume) layout ⌝ }
-    ensures { λ r. ⌜ r ≡ rootUnnamed (shown (now (volume .entry)) .entries) ⌝ }
+    ensures { λ r. ⌜ r ≡ rootUnnamed (shown (now (volume .entry)) .names .entries) ⌝ }
 {
     let used = tables::entries_used(volume, layout);
     let mut i = 0;
@@ -180,17 +188,18 @@ pub fn root_unnamed(volume: &[u8], layout: Layout) -> bool
     true
 }
 
-// Whether the entry in row i has a name that is allowed.
+// Whether the name of the entry in row i is allowed.
 fn entry_allowed(volume: &[u8], layout: Layout, i: usize) -> bool
-    requires { ⌜ Ready (now volume) layout × (i < length (shown (now volume) .entries)) ⌝ }
-    ensures { λ r. ⌜ r ≡ nameAllowed (entryAt (shown (now (volume .entry)) .entries) i .name) ⌝ }
+    requires { ⌜ Ready (now volume) layout × (i < length (shown (now volume) .names .entries)) ⌝ }
+    ensures { λ r. ⌜ r ≡ nameAllowed (entryAt (shown (now (volume .entry)) .names .entries) i .name) ⌝ }
 {
     paths::name_allowed(tables::entry_name(volume, layout, i))
 }
 
+// Whether every entry's name is allowed.
 pub fn names_allowed(volume: &[u8], layout: Layout) -> bool
     requires { ⌜ Ready (now volume) layout ⌝ }
-    ensures { λ r. ⌜ r ≡ namesAllowed (shown (now (volume .entry)) .entries) ⌝ }
+    ensures { λ r. ⌜ r ≡ namesAllowed (shown (now (volume .entry)) .names .entries) ⌝ }
 {
     let used = tables::entries_used(volume, layout);
     let mut i = 0;

@@ -1,4 +1,9 @@
-pub mod Rooms
-pub mod Lent
-pub mod Finds
-pub mod Changes
+pub mod ReadyVolume
+pub mod ReadyTables
+pub mod LentAllocator
+pub mod TableSearch
+pub mod NodeRows
+pub mod ChangedRow
+pub mod ChangedNames
+pub mod ChunkCursor
+pub mod StoredRows

@@ -4,10 +4,11 @@ use mathlib.Core.Path.{_≡_}
 use Prim.Native.Nat.{ℕ}
 use mathlib.Core.Bool.{Bool}
 use mathlib.Core.List.{List, []}
+use mathlib.Core.Option.{Option}
 use lib.ListN.{length, getD}
 use lib.Dec.{eqb, ltb}
-use Rattle.words.specs.Rule.{pick, both}
-use Rattle.words.specs.Table.{lead}
+use Rattle.words.specs.Rules.{pick, both}
+use Rattle.words.specs.Tables.{lead, find}
 use Rattle.types.specs.declared.Limit.{Limit}
 use Rattle.types.specs.declared.NodeRecord.{NodeRecord}
 use Rattle.volume.specs.declared.Layout.{Layout}
@@ -16,12 +17,12 @@ use Rattle.volume.specs.Rows.{Entry, readNode, readEntry, readChunk}
 use Rattle.volume.specs.Volume.{Volume, shown}
 use Rattle.volume.specs.Framed.{Formed}
 use Rattle.volume.specs.Geometry.{layoutOf}
-use Rattle.volume.specs.Search.{nodeUnder, chunkUnder}
+use Rattle.volume.specs.Search.{nodeUnder}
 use Rattle.tables.specs.declared.Found.{Found}
 use Rattle.tables.specs.declared.Found.the-variants.{At, Nothing}
 
 abbrev pub layoutAt : Volume → Layout
-layoutAt v = layoutOf (v .nodeRoom) (v .entryRoom) (v .chunkRoom)
+layoutAt v = layoutOf (v .names .nodeRoom) (v .names .entryRoom) (v .store .chunkRoom)
 
 -- a volume laid out, with its geometry
 pub record Ready (l : List ℕ) (y : Layout) : Type 0 where
@@ -41,11 +42,12 @@ chunkAt cs i = getD cs i (readChunk [])
 unfoldable pub foundNode : ℕ → List NodeRecord → Found
 foundNode n rs = pick (ltb (lead (nodeUnder n) rs) (length rs)) (pick (eqb (nodeAt rs (lead (nodeUnder n) rs) .node) n) (At (lead (nodeUnder n) rs)) Nothing) Nothing
 
+-- the row of chunk k of node n
 abbrev pub isChunk : ℕ → ℕ → ChunkRow → Bool
-isChunk n i c = both (eqb (c .node) n) (eqb (c .index) i)
+isChunk n k c = both (eqb (c .node) n) (eqb (c .index) k)
 
-unfoldable pub foundChunk : ℕ → ℕ → List ChunkRow → Found
-foundChunk n i cs = pick (ltb (lead (chunkUnder n i) cs) (length cs)) (pick (isChunk n i (chunkAt cs (lead (chunkUnder n i) cs))) (At (lead (chunkUnder n i) cs)) Nothing) Nothing
+unfoldable pub chunk : ℕ → ℕ → List ChunkRow → Option ChunkRow
+chunk n k cs = find (isChunk n k) cs
 
 -- ---- one field of a node's row changed
 

@@ -1,31 +1,23 @@
--- A node's kind and limit as the bytes of its row: type 0 is a directory, 1 a regular file, 2 a symbolic link; the flag says whether there is a limit.
+-- What rules ask of a node's kind and of its limit.
 -- Assumes nothing.
 use Prim.Native.Nat.{ℕ}
-use lib.Dec.{eqb}
-use Rattle.words.specs.Rule.{pick}
-use Rattle.types.specs.Sizes.{mostSize}
+use mathlib.Core.Bool.{Bool, true, false}
 use Rattle.types.specs.declared.FileType.{FileType}
 use Rattle.types.specs.declared.FileType.the-variants.{Directory, RegularFile, SymbolicLink}
 use Rattle.types.specs.declared.Limit.{Limit}
 use Rattle.types.specs.declared.Limit.the-variants.{Unlimited, AtMost}
-use Rattle.types.specs.declared.Kind.{Kind}
-use Rattle.types.specs.declared.Kind.the-variants.{Known, Unknown}
+use Rattle.types.specs.Sizes.{mostSize}
 
-unfoldable pub kindOf : ℕ → Kind
-kindOf b = pick (eqb b 0) (Known Directory) (pick (eqb b 1) (Known RegularFile) (pick (eqb b 2) (Known SymbolicLink) Unknown))
+abbrev pub isDirectory : FileType → Bool
+isDirectory Directory = true
+isDirectory RegularFile = false
+isDirectory SymbolicLink = false
 
-abbrev pub kindByte : FileType → ℕ
-kindByte Directory = 0
-kindByte RegularFile = 1
-kindByte SymbolicLink = 2
+abbrev pub isUnlimited : Limit → Bool
+isUnlimited Unlimited = true
+isUnlimited (AtMost most) = false
 
-unfoldable pub limitOf : ℕ → ℕ → Limit
-limitOf flag word = pick (eqb flag 0) Unlimited (AtMost word)
-
-abbrev pub limitFlag : Limit → ℕ
-limitFlag Unlimited = 0
-limitFlag (AtMost most) = 1
-
+-- the limit as a number, 0 where there is none
 abbrev pub limitWord : Limit → ℕ
 limitWord Unlimited = 0
 limitWord (AtMost most) = most

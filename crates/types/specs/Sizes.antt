@@ -2,25 +2,6 @@
 -- Assumes nothing.
 use Prim.Native.Nat.{ℕ}
 
-abbrev pub wordSize : ℕ
-wordSize = 8
-
-abbrev pub headerWords : ℕ
-headerWords = 8
-
--- the allocator's words before its free pointers
-abbrev pub allocatorWords : ℕ
-allocatorWords = 16
-
-abbrev pub nodeRow : ℕ
-nodeRow = 40
-
-abbrev pub entryRow : ℕ
-entryRow = 280
-
-abbrev pub chunkRow : ℕ
-chunkRow = 24
-
 abbrev pub mostRows : ℕ
 mostRows = 4096
 

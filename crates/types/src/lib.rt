@@ -1,23 +1,16 @@
 // The records and answers that every crate speaks of, and the scope's numbers for them.
 ghost use mathlib.Core.Path.{_≡_};
 ghost use Prim.Native.Nat.{_≤_};
-ghost use lib.Dec.{eqb};
 ghost use Rattle.types.specs.Answers.{errorNumber, number, value};
-ghost use Rattle.types.specs.Nodes.{kindOf, kindByte, limitOf, limitFlag, limitWord, fileLimit};
+ghost use Rattle.types.specs.Nodes.{isDirectory, isUnlimited, limitWord, fileLimit};
 
 // Words of the header, and of the allocator before its free pointers.
 pub const HEADER_WORDS: usize = 8;
 
 pub const ALLOCATOR_WORDS: usize = 16;
 
-// Bytes of a word and of a row of each table.
+// Bytes of a word.
 pub const WORD: usize = 8;
-
-pub const NODE_ROW: usize = 40;
-
-pub const ENTRY_ROW: usize = 280;
-
-pub const CHUNK_ROW: usize = 24;
 
 // The most rows that a table may have room for.
 pub const MOST_ROWS: u64 = 4096;
@@ -89,12 +82,6 @@ pub enum Answer {
     Refused(Error),
 }
 
-// What a type byte means, if anything.
-pub enum Kind {
-    Known(FileType),
-    Unknown,
-}
-
 // The scope's number of a refusal.
 pub fn error_number(e: Error) -> u32
     ensures { λ r. ⌜ (r ≡ errorNumber e) × (r ≤ 15) ⌝ }
@@ -138,46 +125,7 @@ pub fn value(a: Answer) -> u64
     }
 }
 
-pub fn kind_of(byte: u8) -> Kind
-    ensures { λ r. ⌜ r ≡ kindOf byte ⌝ }
-{
-    match byte {
-        0 => Kind::Known(FileType::Directory),
-        1 => Kind::Known(FileType::RegularFile),
-        2 => Kind::Known(FileType::SymbolicLink),
-        3..=255 => Kind::Unknown,
-    }
-}
-
-pub fn kind_byte(kind: FileType) -> u8
-    ensures { λ r. ⌜ (r ≡ kindByte kind) × (r ≤ 2) ⌝ }
-{
-    match kind {
-        FileType::Directory => 0,
-        FileType::RegularFile => 1,
-        FileType::SymbolicLink => 2,
-    }
-}
-
-// The limit that a flag byte and a limit word mean.
-pub fn limit_of(flag: u8, word: u64) -> Limit
-    ensures { λ r. ⌜ r ≡ limitOf flag word ⌝ }
-{
-    match flag {
-        0 => Limit::Unlimited,
-        1..=255 => Limit::AtMost(word),
-    }
-}
-
-pub fn limit_flag(limit: Limit) -> u8
-    ensures { λ r. ⌜ (r ≡ limitFlag limit) × (r ≤ 1) ⌝ }
-{
-    match limit {
-        Limit::Unlimited => 0,
-        Limit::AtMost(_) => 1,
-    }
-}
-
+// The limit as a number, 0 where there is none.
 pub fn limit_word(limit: Limit) -> u64
     ensures { λ r. ⌜ r ≡ limitWord limit ⌝ }
 {
@@ -187,13 +135,24 @@ pub fn limit_word(limit: Limit) -> u64
     }
 }
 
+// Whether a kind is a directory's.
 pub fn is_directory(kind: FileType) -> bool
-    ensures { λ r. ⌜ r ≡ eqb (kindByte kind) 0 ⌝ }
+    ensures { λ r. ⌜ r ≡ isDirectory kind ⌝ }
 {
     match kind {
         FileType::Directory => true,
         FileType::RegularFile => false,
         FileType::SymbolicLink => false,
+    }
+}
+
+// Whether a node has no limit of its own.
+pub fn is_unlimited(limit: Limit) -> bool
+    ensures { λ r. ⌜ r ≡ isUnlimited limit ⌝ }
+{
+    match limit {
+        Limit::Unlimited => true,
+        Limit::AtMost(_) => false,
     }
 }
 

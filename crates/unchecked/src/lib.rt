@@ -5,6 +5,7 @@ ghost use Rattle.types.specs.Answers.{number, value};
 ghost use Rattle.volume.specs.Sound.{Sound};
 ghost use Rattle.lentilraft.specs.Door.{read, write};
 
+// Reads a file's bytes; the count goes through a lent place, 0 for a refusal.
 #[no_mangle]
 pub extern "C" fn unchecked_read(
     volume: &[u8],
@@ -17,11 +18,12 @@ pub extern "C" fn unchecked_read(
     ensures { λ r. ⌜ (r ≡ number (read node offset (now (volume .entry)) (now (buffer .entry)) .answer)) × (now (buffer .exit) ≡ read node offset (now (volume .entry)) (now (buffer .entry)) .bytes) × (now (count .exit) ≡ value (read node offset (now (volume .entry)) (now (buffer .entry)) .answer)) ⌝ }
 {
     let layout = volume::read_layout(volume);
-    let answer = chunks::read(volume, layout, node, offset, buffer);
+    let answer = files::read(volume, layout, node, offset, buffer);
     *count = types::value(answer);
     types::number(answer)
 }
 
+// Writes bytes into a file; the count goes through a lent place, 0 for a refusal.
 #[no_mangle]
 pub extern "C" fn unchecked_write(
     volume: &mut [u8],
@@ -34,7 +36,7 @@ pub extern "C" fn unchecked_write(
     ensures { λ r. ⌜ (r ≡ number (write node offset (now (bytes .entry)) (now (volume .entry)) .answer)) × (now (volume .exit) ≡ write node offset (now (bytes .entry)) (now (volume .entry)) .bytes) × (now (count .exit) ≡ value (write node offset (now (bytes .entry)) (now (volume .entry)) .answer)) ⌝ }
 {
     let layout = volume::read_layout(volume);
-    let answer = chunks::write(volume, layout, node, offset, bytes);
+    let answer = files::write(volume, layout, node, offset, bytes);
     *count = types::value(answer);
     types::number(answer)
 }

@@ -2,8 +2,7 @@
 ghost use mathlib.Core.Path.{_≡_};
 ghost use Prim.Native.Nat.{_+_, _≤_, _<_, min};
 ghost use lib.ListN.{length, drop};
-ghost use Rattle.vectors.specs.Scan.{fromDigit, pastDigits, spelled, held, numberAt, nextAt, numbersAt, afterAt};
-ghost use Rattle.vectors.specs.Scan.{digit as Scan·digit};
+ghost use Rattle.vectors.specs.Scan.{fromDigit, pastDigits, spelled, held, numberAt, nextAt, numbersAt, afterAt, digit as Scan·digit};
 
 // Every digit is below it, and it stands for a byte that is none.
 const BASE: u64 = 16;

@@ -8,6 +8,7 @@ const PRIME: u64 = 65521;
 // The second sum stands above the 16 bits of the first.
 const HALF: u64 = 65536;
 
+// A number that changes with any one byte.
 pub fn checksum(v: &[u8]) -> u64
     ensures { λ r. ⌜ r ≡ Sum·checksum (now (v .entry)) ⌝ }
 {

@@ -8,8 +8,8 @@ use Prim.Native.Nat.{ℕ, _+_, _-_, _≤_}
 use native.Mathlib.Omega.{arith}
 use lib.Dec.{eqb, leb}
 use lib.ListN.{length}
-use Rattle.words.specs.Bytes.{word, num, part}
-use Rattle.words.specs.Rule.{pick, both, allZero}
+use Rattle.words.specs.Bytes.{word, num}
+use Rattle.words.specs.Rules.{pick, both}
 use Rattle.words.proofs.Rules.{Says, holds, fails, says-map, says-both, says-and, says-eqb, says-leb}
 use Rattle.words.proofs.Blocks.{says-zeros}
 use Rattle.types.specs.Sizes.{mostSize, mostName, nameRoom}
@@ -44,6 +44,3 @@ module _ (l : List ℕ) (at : ℕ) where
   says-entry h =
       says-map (λ p. record { least = p .0; most = p .1 .0; rest = p .1 .1 }) (λ f. (f .least, (f .most, f .rest)))
       (says-both (says-leb 1 (num 4 l (at + 20))) (says-and (says-leb (num 4 l (at + 20)) mostName) (λ m. says-zeros l (at + 24 + num 4 l (at + 20)) (nameRoom - num 4 l (at + 20)) (omega arith))))
-
-pub entry-rest : (l : List ℕ) (at : ℕ) {n : ℕ} {r : Bool} → r ≡ allZero (part l (at + 24 + n) (256 - n)) → n ≡ num 4 l (at + 20) → r ≡ allZero (part l (at + 24 + num 4 l (at + 20)) (nameRoom - num 4 l (at + 20)))
-entry-rest l at e p = rw (← p) e

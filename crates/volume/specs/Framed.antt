@@ -7,7 +7,7 @@ use Prim.Native.Nat.{ℕ, _+_, _-_, _*_, _^_, _≤_, _<_}
 use mathlib.Core.List.{List}
 use lib.ListN.{length}
 use Rattle.words.specs.Bytes.{part, word, num, zeros}
-use Rattle.words.specs.Table.{Each}
+use Rattle.words.specs.Tables.{Each}
 use Rattle.types.specs.Sizes.{mostRows, leastArea, mostSize, mostName, nameRoom}
 use Rattle.types.specs.Nodes.{limitWord}
 use Rattle.types.specs.declared.NodeRecord.{NodeRecord}
@@ -15,7 +15,7 @@ use Rattle.allocator.specs.Sizes.{acceptedSize}
 use Rattle.allocator.specs.Allocator.{marker, wordsOf}
 use Rattle.volume.specs.declared.ChunkRow.{ChunkRow}
 use Rattle.volume.specs.Rows.{Entry}
-use Rattle.volume.specs.Volume.{Volume, form, shown, laid, atNodes, atEntries, atChunks, atBytes}
+use Rattle.volume.specs.Volume.{Names, Store, Volume, form, shown, laid, atNodes, atEntries, atChunks, atBytes}
 
 -- N, E and C are 1 to 4,096, and the length is at least 65,728 + 40N + 280E + 32C
 pub record Placed (n e c size : ℕ) : Type 0 where
@@ -82,21 +82,30 @@ pub record ChunkFits (r : ChunkRow) : Type 0 where
   pub index : r .index < 2 ^ 64
   pub pointer : r .pointer < 2 ^ 64
 
+pub record NamesFits (a : Names) : Type 0 where
+  pub nodeRoom : (1 ≤ a .nodeRoom) × (a .nodeRoom ≤ mostRows)
+  pub entryRoom : (1 ≤ a .entryRoom) × (a .entryRoom ≤ mostRows)
+  pub nextNode : a .nextNode < 2 ^ 64
+  pub nodes : length (a .nodes) ≤ a .nodeRoom
+  pub entries : length (a .entries) ≤ a .entryRoom
+  pub nodeRows : Each NodeFits (a .nodes)
+  pub entryRows : Each EntryFits (a .entries)
+
+pub record StoreFits (s : Store) : Type 0 where
+  pub chunkRoom : (1 ≤ s .chunkRoom) × (s .chunkRoom ≤ mostRows)
+  pub long : leastArea ≤ length (s .bytes)
+  pub chunks : length (s .chunks) ≤ s .chunkRoom
+  pub mark : s .allocator .mark ≡ marker
+  pub twelve : length (s .allocator .unread) ≡ 12
+  pub words : length (s .allocator .words) ≡ s .chunkRoom
+  pub small : Each (λ w. w < 2 ^ 64) (wordsOf (s .allocator))
+  pub size : acceptedSize (s .allocator .chunkSize) ≡ true
+  pub free : s .allocator .freeCount ≤ s .chunkRoom
+  pub chunkRows : Each ChunkFits (s .chunks)
+
 pub record Fits (v : Volume) : Type 0 where
-  pub placed : Placed (v .nodeRoom) (v .entryRoom) (v .chunkRoom) (atBytes (v .nodeRoom) (v .entryRoom) (v .chunkRoom) + length (v .bytes))
-  pub nextNode : v .nextNode < 2 ^ 64
-  pub nodes : length (v .nodes) ≤ v .nodeRoom
-  pub entries : length (v .entries) ≤ v .entryRoom
-  pub chunks : length (v .chunks) ≤ v .chunkRoom
-  pub mark : v .allocator .mark ≡ marker
-  pub twelve : length (v .allocator .unread) ≡ 12
-  pub words : length (v .allocator .words) ≡ v .chunkRoom
-  pub small : Each (λ w. w < 2 ^ 64) (wordsOf (v .allocator))
-  pub size : acceptedSize (v .allocator .chunkSize) ≡ true
-  pub free : v .allocator .freeCount ≤ v .chunkRoom
-  pub nodeRows : Each NodeFits (v .nodes)
-  pub entryRows : Each EntryFits (v .entries)
-  pub chunkRows : Each ChunkFits (v .chunks)
+  pub names : NamesFits (v .names)
+  pub store : StoreFits (v .store)
 
 -- bytes that are a volume laid out
 pub record Formed (l : List ℕ) : Type 0 where

@@ -1,10 +1,10 @@
 -- New volume: all zero but the header, the marker, the chunk size, and node 0, a directory with links 1; next node 1.
 -- Assumes nothing.
-use Prim.Native.Nat.{ℕ, _+_, _-_}
+use Prim.Native.Nat.{ℕ, _-_}
 use mathlib.Core.List.{List, [], _∷_}
 use lib.ListN.{length}
 use Rattle.words.specs.Bytes.{zeros}
-use Rattle.words.specs.Rule.{pick}
+use Rattle.words.specs.Rules.{pick}
 use Rattle.types.specs.Outcomes.{Outcome, refused, done}
 use Rattle.types.specs.declared.Error.the-variants.{InvalidArgument}
 use Rattle.types.specs.declared.FileType.the-variants.{Directory}
@@ -23,15 +23,8 @@ root = record { node = 0; kind = Directory; limit = Unlimited; links = 1; size =
 
 unfoldable pub fresh : ℕ → ℕ → ℕ → ℕ → ℕ → Volume
 fresh n e c s area = record {
-  nodeRoom = n;
-  entryRoom = e;
-  chunkRoom = c;
-  nextNode = 1;
-  allocator = freshAllocator c s;
-  nodes = root ∷ [];
-  entries = [];
-  chunks = [];
-  bytes = zeros area;
+  names = record { nodeRoom = n; entryRoom = e; nextNode = 1; nodes = root ∷ []; entries = [] };
+  store = record { chunkRoom = c; allocator = freshAllocator c s; chunks = []; bytes = zeros area };
 }
 
 -- the bytes of one in a memory of so many

@@ -1,9 +1,9 @@
 -- Where each area starts, for any numbers that a header may hold.
 -- Assumes nothing.
-use Prim.Native.Nat.{ℕ, _+_, _*_}
+use Prim.Native.Nat.{ℕ, _+_}
 use mathlib.Core.Bool.{Bool}
 use lib.Dec.{leb}
-use Rattle.words.specs.Rule.{pick, both}
+use Rattle.words.specs.Rules.{pick, both}
 use Rattle.types.specs.Sizes.{mostRows, leastArea}
 use Rattle.volume.specs.declared.Layout.{Layout}
 use Rattle.volume.specs.declared.Place.{Place}

@@ -5,7 +5,7 @@ use mathlib.Core.Bool.{Bool}
 use mathlib.Core.List.{List}
 use lib.Dec.{eqb, leb}
 use Rattle.words.specs.Bytes.{word, num, part}
-use Rattle.words.specs.Rule.{pick, both, allZero}
+use Rattle.words.specs.Rules.{pick, both, allZero}
 use Rattle.types.specs.Sizes.{mostSize, mostName, nameRoom}
 
 -- a limit of at most 2^40 under flag 1, none under flag 0

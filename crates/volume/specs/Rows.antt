@@ -4,15 +4,26 @@ use Prim.Native.Nat.{ℕ}
 use mathlib.Core.List.{List, [], _∷_}
 use lib.ListN.{length}
 use Rattle.words.specs.Bytes.{part, spell, num, word, zeros, padded}
-use Rattle.words.specs.Table.{joined}
+use Rattle.words.specs.Tables.{joined}
 use Rattle.types.specs.Sizes.{nameRoom}
-use Rattle.types.specs.Nodes.{kindOf, kindByte, limitOf, limitFlag, limitWord}
+use Rattle.types.specs.Nodes.{limitWord}
 use Rattle.types.specs.declared.FileType.{FileType}
 use Rattle.types.specs.declared.FileType.the-variants.{Directory}
-use Rattle.types.specs.declared.Kind.{Kind}
-use Rattle.types.specs.declared.Kind.the-variants.{Known, Unknown}
 use Rattle.types.specs.declared.NodeRecord.{NodeRecord}
 use Rattle.volume.specs.declared.ChunkRow.{ChunkRow}
+use Rattle.volume.specs.declared.kinds.Kind.{Kind}
+use Rattle.volume.specs.declared.kinds.Kind.the-variants.{Known, Unknown}
+use Rattle.volume.specs.Kinds.{kindOf, kindByte, limitOf, limitFlag}
+
+-- bytes of a row of each table
+abbrev pub nodeRow : ℕ
+nodeRow = 40
+
+abbrev pub entryRow : ℕ
+entryRow = 280
+
+abbrev pub chunkRow : ℕ
+chunkRow = 24
 
 pub record Entry : Type 0 where
   pub parent : ℕ

@@ -1,18 +1,16 @@
 -- Sound, in the scope's words and order: the frame, and what the tables say of each other.
 -- Assumes nothing.
 use mathlib.Core.Path.{_≡_}
-use mathlib.Core.Bool.{Bool, true}
-use mathlib.Core.Logic.{_⊎_}
+use mathlib.Core.Bool.{true}
 use mathlib.Core.Option.{Option, none, some}
 use Prim.Native.Nat.{ℕ, _+_, _-_, _*_, _/_, _%_, _≤_, _<_}
 use mathlib.Core.List.{List, map}
 use lib.ListN.{length, getD}
 use lib.Dec.{eqb}
-use Rattle.words.specs.Rule.{bit, times, count}
-use Rattle.words.specs.Table.{Each, Asc, find}
+use Rattle.words.specs.Rules.{bit, times, count}
+use Rattle.words.specs.Tables.{Each, Asc, find}
 use Rattle.types.specs.Nodes.{fileLimit}
-use Rattle.types.specs.declared.FileType.{FileType}
-use Rattle.types.specs.declared.FileType.the-variants.{Directory, RegularFile, SymbolicLink}
+use Rattle.types.specs.declared.FileType.the-variants.{Directory}
 use Rattle.types.specs.declared.Limit.the-variants.{Unlimited}
 use Rattle.types.specs.declared.NodeRecord.{NodeRecord}
 use Rattle.paths.specs.Path.{nameAllowed}
@@ -20,21 +18,22 @@ use Rattle.allocator.specs.Allocator.{free}
 use Rattle.allocator.specs.Pointers.{due}
 use Rattle.volume.specs.declared.ChunkRow.{ChunkRow}
 use Rattle.volume.specs.Rows.{Entry}
-use Rattle.volume.specs.Volume.{Volume, shown}
+use Rattle.volume.specs.Volume.{Names, Store, Volume, shown}
 use Rattle.volume.specs.Framed.{Framed}
+use Rattle.volume.specs.Search.{PairBefore}
 
 -- ---- a node's row, by its number
 
-unfoldable pub node : ℕ → Volume → Option NodeRecord
-node n v = find (λ r. eqb (r .node) n) (v .nodes)
+unfoldable pub node : ℕ → Names → Option NodeRecord
+node n a = find (λ r. eqb (r .node) n) (a .nodes)
 
-abbrev pub isDirectory : Option NodeRecord → Type 0
-isDirectory none = ⊥
-isDirectory (some r) = r .kind ≡ Directory
+abbrev pub DirectoryThere : Option NodeRecord → Type 0
+DirectoryThere none = ⊥
+DirectoryThere (some r) = r .kind ≡ Directory
 
-abbrev pub isThere : Option NodeRecord → Type 0
-isThere none = ⊥
-isThere (some r) = Unit {0}
+abbrev pub NodeThere : Option NodeRecord → Type 0
+NodeThere none = ⊥
+NodeThere (some r) = Unit {0}
 
 -- ---- counts
 
@@ -52,10 +51,10 @@ abbrev pub nodeBefore : NodeRecord → NodeRecord → Type 0
 nodeBefore a b = a .node < b .node
 
 abbrev pub entryBefore : Entry → Entry → Type 0
-entryBefore a b = (a .parent < b .parent) ⊎ ((a .parent ≡ b .parent) × (a .index < b .index))
+entryBefore a b = PairBefore (a .parent) (a .index) (b .parent) (b .index)
 
 abbrev pub chunkBefore : ChunkRow → ChunkRow → Type 0
-chunkBefore a b = (a .node < b .node) ⊎ ((a .node ≡ b .node) × (a .index < b .index))
+chunkBefore a b = PairBefore (a .node) (a .index) (b .node) (b .index)
 
 -- ---- chunks, over the chunk size
 
@@ -85,35 +84,47 @@ pub record NodeGood (es : List Entry) (r : NodeRecord) : Type 0 where
   -- size is at most the file limit
   pub size : r .size ≤ fileLimit (r .limit)
 
-pub record Good (v : Volume) : Type 0 where
-  -- rows strictly ascend by node, by (parent, index), by (node, index)
-  pub nodeOrder : Asc nodeBefore (v .nodes)
-  pub entryOrder : Asc entryBefore (v .entries)
-  pub chunkOrder : Asc chunkBefore (v .chunks)
+-- nodes and entries
+pub record Named (a : Names) : Type 0 where
+  -- rows strictly ascend by node, by (parent, index)
+  pub nodeOrder : Asc nodeBefore (a .nodes)
+  pub entryOrder : Asc entryBefore (a .entries)
   -- an entry's index is at least 1
-  pub indexes : Each (λ e. 1 ≤ e .index) (v .entries)
+  pub indexes : Each (λ e. 1 ≤ e .index) (a .entries)
   -- next node exceeds every node
-  pub fresh : Each (λ r. r .node < v .nextNode) (v .nodes)
+  pub fresh : Each (λ r. r .node < a .nextNode) (a .nodes)
   -- node 0 is a directory named by no entry
-  pub root : isDirectory (node 0 v)
-  pub unnamed : naming 0 (v .entries) ≡ 0
+  pub root : DirectoryThere (node 0 a)
+  pub unnamed : naming 0 (a .entries) ≡ 0
   -- names have 1 to 255 bytes, no slash, and are neither `.` nor `..`
-  pub names : Each (λ e. nameAllowed (e .name) ≡ true) (v .entries)
+  pub names : Each (λ e. nameAllowed (e .name) ≡ true) (a .entries)
   -- every entry's parent is a directory and its node has a row
-  pub parents : Each (λ e. isDirectory (node (e .parent) v)) (v .entries)
-  pub targets : Each (λ e. isThere (node (e .node) v)) (v .entries)
+  pub parents : Each (λ e. DirectoryThere (node (e .parent) a)) (a .entries)
+  pub targets : Each (λ e. NodeThere (node (e .node) a)) (a .entries)
   -- no name stands twice in a directory
-  pub once : Asc (λ a b. a .parent ≡ b .parent → a .name ≡ b .name → ⊥) (v .entries)
+  pub once : Asc (λ a b. a .parent ≡ b .parent → a .name ≡ b .name → ⊥) (a .entries)
   -- what holds of each node
-  pub nodes : Each (NodeGood (v .entries)) (v .nodes)
-  -- chunk rows belong to non-directories, with index below size divided by S, rounded up; bytes of a chunk above size are zero
-  pub owned : Each (λ c. Owned (v .allocator .chunkSize) (v .bytes) c (node (c .node) v)) (v .chunks)
+  pub nodes : Each (NodeGood (a .entries)) (a .nodes)
+
+-- chunk rows, allocator and chunk area
+pub record Stored (s : Store) : Type 0 where
+  -- rows strictly ascend by (node, index)
+  pub order : Asc chunkBefore (s .chunks)
   -- word 3 is a multiple of S, at most A and C × S
-  pub lined : v .allocator .nextPtr % v .allocator .chunkSize ≡ 0
-  pub inside : v .allocator .nextPtr ≤ length (v .bytes)
-  pub enough : v .allocator .nextPtr ≤ v .chunkRoom * v .allocator .chunkSize
+  pub lined : s .allocator .nextPtr % s .allocator .chunkSize ≡ 0
+  pub inside : s .allocator .nextPtr ≤ length (s .bytes)
+  pub enough : s .allocator .nextPtr ≤ s .chunkRoom * s .allocator .chunkSize
   -- each multiple of S below it stands exactly once among row pointers and free pointers, and no other pointer stands there
-  pub pointers : (p : ℕ) → count p (map (λ c. c .pointer) (v .chunks)) + count p (free (v .allocator)) ≡ due (v .allocator .chunkSize) (v .allocator .nextPtr) p
+  pub pointers : (p : ℕ) → count p (map (λ c. c .pointer) (s .chunks)) + count p (free (s .allocator)) ≡ due (s .allocator .chunkSize) (s .allocator .nextPtr) p
+
+-- chunk rows belong to non-directories, with index below size divided by S, rounded up; bytes of a chunk above size are zero
+abbrev pub ChunksOwned : Names → Store → Type 0
+ChunksOwned a s = Each (λ c. Owned (s .allocator .chunkSize) (s .bytes) c (node (c .node) a)) (s .chunks)
+
+pub record Good (v : Volume) : Type 0 where
+  pub named : Named (v .names)
+  pub stored : Stored (v .store)
+  pub owned : ChunksOwned (v .names) (v .store)
 
 pub record Sound (l : List ℕ) : Type 0 where
   pub framed : Framed l

@@ -3,12 +3,12 @@
 use Prim.Native.Nat.{ℕ}
 use mathlib.Core.List.{List, map}
 use lib.Dec.{eqb}
-use Rattle.words.specs.Rule.{pick}
+use Rattle.words.specs.Rules.{pick}
 use Rattle.types.specs.declared.Answer.{Answer}
 use Rattle.types.specs.declared.Answer.the-variants.{Done, Refused}
 use Rattle.types.specs.declared.Error.{Error}
 use Rattle.types.specs.declared.NodeRecord.{NodeRecord}
-use Rattle.volume.specs.Volume.{Volume, withNodes}
+use Rattle.volume.specs.Volume.{Names, Volume, withNodes}
 
 pub record Step : Type 0 where
   pub answer : Answer
@@ -25,5 +25,5 @@ becomes n v = record { answer = Done n; after = v }
 unfoldable pub changed : ℕ → (NodeRecord → NodeRecord) → List NodeRecord → List NodeRecord
 changed n f rs = map (λ r. pick (eqb (r .node) n) (f r) r) rs
 
-abbrev pub withNode : ℕ → (NodeRecord → NodeRecord) → Volume → Volume
-withNode n f v = withNodes (changed n f (v .nodes)) v
+abbrev pub withNode : ℕ → (NodeRecord → NodeRecord) → Names → Names
+withNode n f a = withNodes (changed n f (a .nodes)) a

@@ -4,23 +4,30 @@ use Prim.Native.Nat.{ℕ, _+_, _*_}
 use mathlib.Core.List.{List, [], _∷_}
 use lib.ListN.{length, drop}
 use Rattle.words.specs.Bytes.{word, part}
-use Rattle.words.specs.Table.{table, layWords, area, joined}
-use Rattle.types.specs.Sizes.{nodeRow, entryRow, chunkRow}
+use Rattle.words.specs.Tables.{table, layWords, area, joined}
 use Rattle.types.specs.declared.NodeRecord.{NodeRecord}
 use Rattle.allocator.specs.Allocator.{Allocator, layAllocator, readAllocator}
 use Rattle.volume.specs.declared.ChunkRow.{ChunkRow}
-use Rattle.volume.specs.Rows.{Entry, layNode, readNode, layEntry, readEntry, layChunk, readChunk}
+use Rattle.volume.specs.Rows.{nodeRow, entryRow, chunkRow, Entry, layNode, readNode, layEntry, readEntry, layChunk, readChunk}
 
-pub record Volume : Type 0 where
+-- room for nodes and entries, the next node, and the rows of both
+pub record Names : Type 0 where
   pub nodeRoom : ℕ
   pub entryRoom : ℕ
-  pub chunkRoom : ℕ
   pub nextNode : ℕ
-  pub allocator : Allocator
   pub nodes : List NodeRecord
   pub entries : List Entry
+
+-- room for chunks, the allocator, the rows, and the chunk area
+pub record Store : Type 0 where
+  pub chunkRoom : ℕ
+  pub allocator : Allocator
   pub chunks : List ChunkRow
   pub bytes : List ℕ
+
+pub record Volume : Type 0 where
+  pub names : Names
+  pub store : Store
 
 -- the form the bytes have
 abbrev pub form : ℕ
@@ -28,16 +35,16 @@ form = 1
 
 -- the header's words: the form, the rooms, the rows used, the next node
 abbrev pub heads : Volume → List ℕ
-heads v = form ∷ v .nodeRoom ∷ v .entryRoom ∷ v .chunkRoom ∷ length (v .nodes) ∷ length (v .entries) ∷ length (v .chunks) ∷ v .nextNode ∷ []
+heads v = form ∷ v .names .nodeRoom ∷ v .names .entryRoom ∷ v .store .chunkRoom ∷ length (v .names .nodes) ∷ length (v .names .entries) ∷ length (v .store .chunks) ∷ v .names .nextNode ∷ []
 
 abbrev pub areas : Volume → List (List ℕ)
 areas v =
     layWords (heads v)
-    ∷ layAllocator (v .allocator)
-    ∷ area layNode nodeRow (v .nodeRoom) (v .nodes)
-    ∷ area layEntry entryRow (v .entryRoom) (v .entries)
-    ∷ area layChunk chunkRow (v .chunkRoom) (v .chunks)
-    ∷ v .bytes ∷ []
+    ∷ layAllocator (v .store .allocator)
+    ∷ area layNode nodeRow (v .names .nodeRoom) (v .names .nodes)
+    ∷ area layEntry entryRow (v .names .entryRoom) (v .names .entries)
+    ∷ area layChunk chunkRow (v .store .chunkRoom) (v .store .chunks)
+    ∷ v .store .bytes ∷ []
 
 unfoldable pub laid : Volume → List ℕ
 laid v = joined (areas v)
@@ -64,33 +71,51 @@ atBytes n e c = atChunks n e c + 24 * c
 
 unfoldable pub shown : List ℕ → Volume
 shown l = record {
-  nodeRoom = word l 8;
-  entryRoom = word l 16;
-  chunkRoom = word l 24;
-  nextNode = word l 56;
-  allocator = readAllocator (part l atAllocator (allocatorSize (word l 24)));
-  nodes = table readNode 40 l (atNodes (word l 24)) (word l 32);
-  entries = table readEntry 280 l (atEntries (word l 8) (word l 24)) (word l 40);
-  chunks = table readChunk 24 l (atChunks (word l 8) (word l 16) (word l 24)) (word l 48);
-  bytes = drop (atBytes (word l 8) (word l 16) (word l 24)) l;
+  names = record {
+    nodeRoom = word l 8;
+    entryRoom = word l 16;
+    nextNode = word l 56;
+    nodes = table readNode 40 l (atNodes (word l 24)) (word l 32);
+    entries = table readEntry 280 l (atEntries (word l 8) (word l 24)) (word l 40);
+  };
+  store = record {
+    chunkRoom = word l 24;
+    allocator = readAllocator (part l atAllocator (allocatorSize (word l 24)));
+    chunks = table readChunk 24 l (atChunks (word l 8) (word l 16) (word l 24)) (word l 48);
+    bytes = drop (atBytes (word l 8) (word l 16) (word l 24)) l;
+  };
 }
 
--- ---- one table changed
+-- ---- one field of a half changed
 
-abbrev pub withNext : ℕ → Volume → Volume
-withNext n v = record { nodeRoom = v .nodeRoom; entryRoom = v .entryRoom; chunkRoom = v .chunkRoom; nextNode = n; allocator = v .allocator; nodes = v .nodes; entries = v .entries; chunks = v .chunks; bytes = v .bytes }
+abbrev pub withNext : ℕ → Names → Names
+withNext n a = record { nodeRoom = a .nodeRoom; entryRoom = a .entryRoom; nextNode = n; nodes = a .nodes; entries = a .entries }
 
-abbrev pub withAllocator : Allocator → Volume → Volume
-withAllocator a v = record { nodeRoom = v .nodeRoom; entryRoom = v .entryRoom; chunkRoom = v .chunkRoom; nextNode = v .nextNode; allocator = a; nodes = v .nodes; entries = v .entries; chunks = v .chunks; bytes = v .bytes }
+abbrev pub withNodes : List NodeRecord → Names → Names
+withNodes rs a = record { nodeRoom = a .nodeRoom; entryRoom = a .entryRoom; nextNode = a .nextNode; nodes = rs; entries = a .entries }
 
-abbrev pub withNodes : List NodeRecord → Volume → Volume
-withNodes rs v = record { nodeRoom = v .nodeRoom; entryRoom = v .entryRoom; chunkRoom = v .chunkRoom; nextNode = v .nextNode; allocator = v .allocator; nodes = rs; entries = v .entries; chunks = v .chunks; bytes = v .bytes }
+abbrev pub withEntries : List Entry → Names → Names
+withEntries es a = record { nodeRoom = a .nodeRoom; entryRoom = a .entryRoom; nextNode = a .nextNode; nodes = a .nodes; entries = es }
 
-abbrev pub withEntries : List Entry → Volume → Volume
-withEntries es v = record { nodeRoom = v .nodeRoom; entryRoom = v .entryRoom; chunkRoom = v .chunkRoom; nextNode = v .nextNode; allocator = v .allocator; nodes = v .nodes; entries = es; chunks = v .chunks; bytes = v .bytes }
+abbrev pub withAllocator : Allocator → Store → Store
+withAllocator a s = record { chunkRoom = s .chunkRoom; allocator = a; chunks = s .chunks; bytes = s .bytes }
 
-abbrev pub withChunks : List ChunkRow → Volume → Volume
-withChunks cs v = record { nodeRoom = v .nodeRoom; entryRoom = v .entryRoom; chunkRoom = v .chunkRoom; nextNode = v .nextNode; allocator = v .allocator; nodes = v .nodes; entries = v .entries; chunks = cs; bytes = v .bytes }
+abbrev pub withChunks : List ChunkRow → Store → Store
+withChunks cs s = record { chunkRoom = s .chunkRoom; allocator = s .allocator; chunks = cs; bytes = s .bytes }
 
-abbrev pub withBytes : List ℕ → Volume → Volume
-withBytes bs v = record { nodeRoom = v .nodeRoom; entryRoom = v .entryRoom; chunkRoom = v .chunkRoom; nextNode = v .nextNode; allocator = v .allocator; nodes = v .nodes; entries = v .entries; chunks = v .chunks; bytes = bs }
+abbrev pub withBytes : List ℕ → Store → Store
+withBytes bs s = record { chunkRoom = s .chunkRoom; allocator = s .allocator; chunks = s .chunks; bytes = bs }
+
+-- ---- one half changed
+
+abbrev pub withNames : Names → Volume → Volume
+withNames a v = record { names = a; store = v .store }
+
+abbrev pub withStore : Store → Volume → Volume
+withStore s v = record { names = v .names; store = s }
+
+abbrev pub onNames : (Names → Names) → Volume → Volume
+onNames f v = record { names = f (v .names); store = v .store }
+
+abbrev pub onStore : (Store → Store) → Volume → Volume
+onStore f v = record { names = v .names; store = f (v .store) }

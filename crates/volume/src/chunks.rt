@@ -1,11 +1,12 @@
 // Rows of the chunk table.
+use crate::CHUNK_ROW;
 use crate::ChunkRow;
 use crate::pairs::pair_before;
 ghost use mathlib.Core.Path.{_≡_};
 ghost use Prim.Native.Nat.{_+_, _*_, _≤_, _<_};
 ghost use lib.ListN.{length};
 ghost use Rattle.words.specs.Bytes.{part, over};
-ghost use Rattle.words.specs.Table.{table, lead, Falls};
+ghost use Rattle.words.specs.Tables.{table, lead, Falls};
 ghost use Rattle.types.specs.Sizes.{mostSize};
 ghost use Rattle.volume.specs.Rows.{layChunk, readChunk};
 ghost use Rattle.volume.specs.Search.{chunkUnder};
@@ -16,7 +17,7 @@ const INDEX: usize = 8;
 
 const POINTER: usize = 16;
 
-// The row whose bytes start at index at.
+// The chunk whose row starts at index at.
 pub fn read_chunk(volume: &[u8], at: usize) -> ChunkRow
     requires { ⌜ at + 24 ≤ length (now volume) ⌝ }
     ensures { λ r. ⌜ r ≡ readChunk (part (now (volume .entry)) at 24) ⌝ }
@@ -28,6 +29,7 @@ pub fn read_chunk(volume: &[u8], at: usize) -> ChunkRow
     }
 }
 
+// Writes a chunk's row at index at.
 pub fn write_chunk(volume: &mut [u8], at: usize, row: ChunkRow)
     requires { ⌜ at + 24 ≤ length (now volume) ⌝ }
     ensures { λ _. ⌜ now (volume .exit) ≡ over (now (volume .entry)) at (layChunk row) ⌝ }
@@ -58,7 +60,7 @@ pub fn seek_chunk(volume: &[u8], base: usize, used: usize, node: u64, index: u64
     let mut high = used;
     while low < high {
         let middle = low + (high - low) / 2;
-        if chunk_under(volume, base + types::CHUNK_ROW * middle, node, index) {
+        if chunk_under(volume, base + CHUNK_ROW * middle, node, index) {
             low = middle + 1;
         } else {
             high = middle;
@@ -67,10 +69,10 @@ pub fn seek_chunk(volume: &[u8], base: usize, used: usize, node: u64, index: u64
     low
 }
 
-// How many chunks a file of size bytes has room for: its chunks have lower indexes.
-pub fn round_up(size: u64, chunk: u64) -> u64
-    requires { ⌜ (0 < chunk) × (chunk ≤ 65536) × (size ≤ mostSize) ⌝ }
-    ensures { λ r. ⌜ (r ≡ roundUp chunk size) × (r ≤ size) ⌝ }
+// A file's size divided by the chunk size, rounded up: its chunks have lower indexes.
+pub fn round_up(size: u64, span: u64) -> u64
+    requires { ⌜ (0 < span) × (span ≤ 65536) × (size ≤ mostSize) ⌝ }
+    ensures { λ r. ⌜ (r ≡ roundUp span size) × (r ≤ size) ⌝ }
 {
-    (size + (chunk - 1)) / chunk
+    (size + (span - 1)) / span
 }

@@ -1,10 +1,11 @@
 // Rows of the entry table. A name stands in the volume: it is lent, and never copied out.
+use crate::ENTRY_ROW;
 use crate::pairs::pair_before;
 ghost use mathlib.Core.Path.{_≡_};
 ghost use Prim.Native.Nat.{_+_, _*_, _≤_, _<_};
 ghost use lib.ListN.{length};
 ghost use Rattle.words.specs.Bytes.{part, over, num};
-ghost use Rattle.words.specs.Table.{table, lead, Falls};
+ghost use Rattle.words.specs.Tables.{table, lead, Falls};
 ghost use Rattle.types.specs.Sizes.{nameRoom};
 ghost use Rattle.volume.specs.Rows.{layEntry, readEntry};
 ghost use Rattle.volume.specs.RowTests.{entryFormed};
@@ -19,7 +20,7 @@ const NAME_SIZE: usize = 20;
 
 const NAME: usize = 24;
 
-// Fields of the row whose bytes start at index at.
+// The parent in the row that starts at index at.
 pub fn entry_parent(volume: &[u8], at: usize) -> u64
     requires { ⌜ at + 280 ≤ length (now volume) ⌝ }
     ensures { λ r. ⌜ r ≡ readEntry (part (now (volume .entry)) at 280) .parent ⌝ }
@@ -27,6 +28,7 @@ pub fn entry_parent(volume: &[u8], at: usize) -> u64
     words::get64(volume, at)
 }
 
+// The node in the row that starts at index at.
 pub fn entry_node(volume: &[u8], at: usize) -> u64
     requires { ⌜ at + 280 ≤ length (now volume) ⌝ }
     ensures { λ r. ⌜ r ≡ readEntry (part (now (volume .entry)) at 280) .node ⌝ }
@@ -34,6 +36,7 @@ pub fn entry_node(volume: &[u8], at: usize) -> u64
     words::get64(volume, at + NODE)
 }
 
+// The index in the row that starts at index at.
 pub fn entry_index(volume: &[u8], at: usize) -> u64
     requires { ⌜ at + 280 ≤ length (now volume) ⌝ }
     ensures { λ r. ⌜ (r ≡ readEntry (part (now (volume .entry)) at 280) .index) × (r < 4294967296) ⌝ }
@@ -41,6 +44,7 @@ pub fn entry_index(volume: &[u8], at: usize) -> u64
     words::get32(volume, at + INDEX)
 }
 
+// The name in the row that starts at index at, as a part of the volume.
 pub fn entry_name(volume: &[u8], at: usize) -> &[u8]
     requires { ⌜ (at + 280 ≤ length (now volume)) × (num 4 (now volume) (at + 20) ≤ nameRoom) ⌝ }
     ensures { λ r. ⌜ now r ≡ readEntry (part (now (volume .entry)) at 280) .name ⌝ }
@@ -50,6 +54,7 @@ pub fn entry_name(volume: &[u8], at: usize) -> &[u8]
     &volume[start..start + size]
 }
 
+// Writes an entry's row at index at.
 pub fn write_entry(volume: &mut [u8], at: usize, parent: u64, node: u64, index: u64, name: &[u8])
     requires { ⌜ (at + 280 ≤ length (now volume)) × (length (now name) ≤ nameRoom) ⌝ }
     ensures { λ _. ⌜ now (volume .exit) ≡ over (now (volume .entry)) at (layEntry (record { parent = parent; node = node; index = index; name = now (name .entry) })) ⌝ }
@@ -85,7 +90,7 @@ pub fn seek_entry(volume: &[u8], base: usize, used: usize, parent: u64, index: u
     let mut high = used;
     while low < high {
         let middle = low + (high - low) / 2;
-        if entry_under(volume, base + types::ENTRY_ROW * middle, parent, index) {
+        if entry_under(volume, base + ENTRY_ROW * middle, parent, index) {
             low = middle + 1;
         } else {
             high = middle;

@@ -9,7 +9,6 @@ use types::FileType;
 use types::Limit;
 use types::NodeRecord;
 ghost use mathlib.Core.Path.{_≡_};
-ghost use Prim.Native.Nat.{_≤_};
 ghost use lib.ListN.{length};
 ghost use Rattle.types.specs.Outcomes.{outcome};
 ghost use Rattle.volume.specs.Volume.{atNodes};

@@ -1,8 +1,11 @@
 // Where the areas start, from the rooms of the tables and the length.
 use crate::CHUNK_ROOM;
+use crate::CHUNK_ROW;
 use crate::ENTRY_ROOM;
+use crate::ENTRY_ROW;
 use crate::Layout;
 use crate::NODE_ROOM;
+use crate::NODE_ROW;
 use crate::Place;
 ghost use mathlib.Core.Path.{_≡_};
 ghost use Prim.Native.Nat.{_≤_};
@@ -14,6 +17,7 @@ ghost use Rattle.volume.specs.Framed.{Headed};
 // The node rows stand behind the header's words, the allocator's first words, and a word for each chunk.
 const FIRST_TABLE: usize = types::WORD * (types::HEADER_WORDS + types::ALLOCATOR_WORDS);
 
+// Whether a table may have room for this many rows.
 fn is_roomy(rows: u64) -> bool
     ensures { λ r. ⌜ r ≡ roomy rows ⌝ }
 {
@@ -23,25 +27,25 @@ fn is_roomy(rows: u64) -> bool
     rows <= types::MOST_ROWS
 }
 
-// Room for tables of so many rows.
+// Where each area starts, for tables with room for these numbers of rows.
 fn starts(nodes: u64, entries: u64, chunks: u64) -> Layout
     requires { ⌜ (nodes ≤ mostRows) × (entries ≤ mostRows) × (chunks ≤ mostRows) ⌝ }
     ensures { λ r. ⌜ r ≡ layoutOf nodes entries chunks ⌝ }
 {
     let first = FIRST_TABLE + types::WORD * (chunks as usize);
-    let second = first + types::NODE_ROW * (nodes as usize);
-    let third = second + types::ENTRY_ROW * (entries as usize);
+    let second = first + NODE_ROW * (nodes as usize);
+    let third = second + ENTRY_ROW * (entries as usize);
     Layout {
         nodes: first,
         entries: second,
         chunks: third,
-        bytes: third + types::CHUNK_ROW * (chunks as usize),
+        bytes: third + CHUNK_ROW * (chunks as usize),
     }
 }
 
-// The areas of a memory of so many bytes, for any numbers: nowhere if a table's room is out of bounds or the memory too short.
-pub fn place_tables(nodes: u64, entries: u64, chunks: u64, size: u64) -> Place
-    ensures { λ r. ⌜ r ≡ placeOf nodes entries chunks size ⌝ }
+// Where the areas of a memory of this many bytes start: nowhere if a table's room is out of bounds or the memory too short.
+pub fn place_tables(nodes: u64, entries: u64, chunks: u64, extent: u64) -> Place
+    ensures { λ r. ⌜ r ≡ placeOf nodes entries chunks extent ⌝ }
 {
     if !is_roomy(nodes) {
         return Place::Nowhere;
@@ -54,7 +58,7 @@ pub fn place_tables(nodes: u64, entries: u64, chunks: u64, size: u64) -> Place
     }
     let layout = starts(nodes, entries, chunks);
     let bytes = layout.bytes as u64;
-    if size < bytes + types::LEAST_AREA {
+    if extent < bytes + types::LEAST_AREA {
         return Place::Nowhere;
     }
     Place::At(layout)

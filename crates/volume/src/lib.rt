@@ -3,6 +3,7 @@ mod chunks;
 mod entries;
 mod fresh;
 mod geometry;
+mod kinds;
 mod nodes;
 mod pairs;
 
@@ -20,6 +21,8 @@ pub use entries::write_entry;
 pub use fresh::new_volume;
 pub use geometry::place_tables;
 pub use geometry::read_layout;
+pub use kinds::Kind;
+pub use kinds::kind_of;
 pub use nodes::node_formed;
 pub use nodes::read_node;
 pub use nodes::seek_node;
@@ -44,6 +47,17 @@ pub const CHUNKS_USED: usize = 48;
 
 pub const NEXT_NODE: usize = 56;
 
+// Where the allocator's words start, behind the header.
+pub const ALLOCATOR: usize = types::WORD * types::HEADER_WORDS;
+
+// Bytes of a row of each table.
+pub const NODE_ROW: usize = 40;
+
+pub const ENTRY_ROW: usize = 280;
+
+pub const CHUNK_ROW: usize = 24;
+
+// A row of the chunk table: chunk index of node stands at pointer in the chunk area.
 pub struct ChunkRow {
     pub node: u64,
     pub index: u64,
@@ -58,6 +72,7 @@ pub struct Layout {
     pub bytes: usize,
 }
 
+// Where the areas of a memory start, if it can be a volume.
 pub enum Place {
     At(Layout),
     Nowhere,

@@ -1,12 +1,17 @@
 // Rows of the node table.
+use crate::NODE_ROW;
+use crate::kinds::Kind;
+use crate::kinds::kind_byte;
+use crate::kinds::kind_of;
+use crate::kinds::limit_flag;
+use crate::kinds::limit_of;
 use types::FileType;
-use types::Kind;
 use types::NodeRecord;
 ghost use mathlib.Core.Path.{_≡_};
 ghost use Prim.Native.Nat.{_+_, _*_, _≤_};
 ghost use lib.ListN.{length};
 ghost use Rattle.words.specs.Bytes.{part, over};
-ghost use Rattle.words.specs.Table.{table, lead, Falls};
+ghost use Rattle.words.specs.Tables.{table, lead, Falls};
 ghost use Rattle.volume.specs.Rows.{kindOr, layNode, readNode};
 ghost use Rattle.volume.specs.RowTests.{limitFormed, nodeFormed};
 ghost use Rattle.volume.specs.Search.{nodeUnder};
@@ -44,15 +49,15 @@ fn known(kind: Kind) -> FileType
     }
 }
 
-// The row whose bytes start at index at.
+// The node whose row starts at index at.
 pub fn read_node(volume: &[u8], at: usize) -> NodeRecord
     requires { ⌜ at + 40 ≤ length (now volume) ⌝ }
     ensures { λ r. ⌜ r ≡ readNode (part (now (volume .entry)) at 40) ⌝ }
 {
     let byte = words::get8(volume, at + KIND) as u8;
     let flag = words::get8(volume, at + FLAG) as u8;
-    let kind = known(types::kind_of(byte));
-    let limit = types::limit_of(flag, words::get64(volume, at + LIMIT));
+    let kind = known(kind_of(byte));
+    let limit = limit_of(flag, words::get64(volume, at + LIMIT));
     NodeRecord {
         node: words::get64(volume, at),
         kind,
@@ -62,14 +67,15 @@ pub fn read_node(volume: &[u8], at: usize) -> NodeRecord
     }
 }
 
+// Writes a node's row at index at.
 pub fn write_node(volume: &mut [u8], at: usize, row: NodeRecord)
     requires { ⌜ at + 40 ≤ length (now volume) ⌝ }
     ensures { λ _. ⌜ now (volume .exit) ≡ over (now (volume .entry)) at (layNode row) ⌝ }
 {
     let kind = row.kind;
     let limit = row.limit;
-    let byte = types::kind_byte(kind) as u64;
-    let flag = types::limit_flag(limit) as u64;
+    let byte = kind_byte(kind) as u64;
+    let flag = limit_flag(limit) as u64;
     let rest = [row.links, row.size, types::limit_word(limit)];
     words::put64(volume, at, row.node);
     words::put8(volume, at + KIND, byte);
@@ -87,7 +93,7 @@ pub fn seek_node(volume: &[u8], base: usize, used: usize, node: u64) -> usize
     let mut high = used;
     while low < high {
         let middle = low + (high - low) / 2;
-        if words::get64(volume, base + types::NODE_ROW * middle) < node {
+        if words::get64(volume, base + NODE_ROW * middle) < node {
             low = middle + 1;
         } else {
             high = middle;

@@ -12,8 +12,8 @@ use Rattle.types.specs.Outcomes.{outcome}
 use Rattle.types.specs.declared.Answer.{Answer}
 use Rattle.volume.specs.Geometry.{placed}
 use Rattle.volume.specs.Fresh.{newVolume}
-use Rattle.volume.proofs.Places.{says-placed}
-use Rattle.volume.proofs.NewLaid.{new-misplaced}
+use Rattle.volume.proofs.GeometryRules.{says-placed}
+use Rattle.volume.proofs.FreshLaid.{new-misplaced}
 
 -- where it is not refused, the first node row fits
 pub row-fits : (n e c s : ℕ) (l : List ℕ) {a : Answer} {m : List ℕ} {k : ℕ} → outcome a m ≡ newVolume n e c s l → k ≡ number a → k ≡ 0 → 232 + 8 * c ≤ length l

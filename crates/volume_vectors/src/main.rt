@@ -15,15 +15,13 @@ const FIELDS: usize = 5;
 // The longest memory that a case is lent. The greatest tables ask for 1,507,520 bytes at least.
 const ROOM: usize = 1_572_864;
 
-// Where the allocator and its free pointers start, in bytes. Behind the room for these stand the node rows.
-const ALLOCATOR: usize = types::WORD * types::HEADER_WORDS;
-
-const POINTERS: usize = ALLOCATOR + types::WORD * types::ALLOCATOR_WORDS;
+// Where the allocator's free pointers start, in bytes. Behind the room for these stand the node rows.
+const POINTERS: usize = volume::ALLOCATOR + types::WORD * types::ALLOCATOR_WORDS;
 
 // The allocator's words that have a meaning of their own: marker, chunk size, free count, next new pointer.
 const NAMED_WORDS: usize = 4;
 
-const NODE_WORDS: usize = types::NODE_ROW / types::WORD;
+const NODE_WORDS: usize = volume::NODE_ROW / types::WORD;
 
 struct Case {
     nodes: u64,
@@ -121,7 +119,7 @@ fn print_volume(volume: &[u8], chunks: u64)
     io::write_all(STDOUT_FILENO, b" header");
     print_words(volume, 0, types::HEADER_WORDS);
     io::write_all(STDOUT_FILENO, b" allocator");
-    print_words(volume, ALLOCATOR, NAMED_WORDS);
+    print_words(volume, volume::ALLOCATOR, NAMED_WORDS);
     io::write_all(STDOUT_FILENO, b" node");
     let nodes = POINTERS + types::WORD * (chunks as usize);
     print_words(volume, nodes, NODE_WORDS);

@@ -8,7 +8,7 @@ use native.Mathlib.Omega.{arith}
 use lib.ListN.{length-set, length, take, drop, getD, set, length-append, length-drop, take-append-drop}
 use lib.Seq.{set-getD, length-take-le, drop-drop}
 use Rattle.words.specs.Bytes.{part, over, zeros, spell}
-use Rattle.words.specs.Table.{layAll, layWords, area, joined, insertAt, removeAt}
+use Rattle.words.specs.Tables.{layAll, layWords, area, joined, insertAt}
 use Rattle.words.proofs.Parts.{length-zeros, zeros-add, length-part, over-mid, part-mid, two, before}
 use Rattle.words.proofs.Tables.{put-word, length-insertAt, layAll-append, length-layAll, length-area, part-lay, set-area, insert-area, append-area, joined-cut, part-joined, over-joined}
 use Rattle.words.proofs.Pieces.{unused-area}
@@ -214,9 +214,3 @@ module _ {R : Type 0} {lay : R → List ℕ} {s base room head : ℕ} {rs : List
       let j : o ≡ joined (layWords ws ∷ set ls (t .which) (area lay s room (take p rs ++ drop (p + n) rs))) =
       remove-joined lay s (t .sized) (layWords ws ∷ ls) (suc (t .which)) base room rs (omega arith) (t .stands) (t .start) (t .fits) p n at from len last gone (omega arith) ea (omega arith) (rw (← eu) en) (rw (← eu) et) eg h eo in
       count-rows (take p rs ++ drop (p + n) rs) x (omega (arith, length-rest p n rs (omega arith))) j eq
-
-  -- one of them
-  pub remove-row : (p used at from len last x : ℕ) {l m o q : List ℕ} → l ≡ put rs → used ≡ length rs → p < used → at ≡ base + s * p → from ≡ at + s → len ≡ s * (used - (p + 1)) → last ≡ base + s * (used - 1) → x ≡ used - 1
-      → m ≡ over l at (part l from len) → o ≡ over m last (zeros s) → q ≡ over o head (spell 8 x) → q ≡ put (removeAt p rs)
-  unfolding removeAt
-  remove-row p used at from len last x el eu b ea ef en et ex em eo eq = remove-rows p 1 used at from len last s x el eu (omega arith) ea (rw mul-one ef) en et (sym (mul-one s)) ex em eo eq

@@ -12,7 +12,7 @@ use borrow.Author.Tests.{eq-eqb, ne-eqb}
 use lib.ListN.{length, take, drop, getD}
 use lib.Seq.{take-add, take-all, take-suc, getD-drop}
 use Rattle.words.specs.Bytes.{part, zeros, value, num, Bytes}
-use Rattle.words.specs.Rule.{both, same, allZero}
+use Rattle.words.specs.Rules.{both, same, allZero}
 use Rattle.words.proofs.Parts.{cut, part-add, length-part}
 use Rattle.words.proofs.Numbers.{spell-num, num-one}
 use Rattle.words.proofs.Rules.{Says, holds, fails, says-eqb, says-both, says-map, says-true, true-says}

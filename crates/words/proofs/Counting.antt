@@ -10,8 +10,8 @@ use native.Mathlib.Omega.{arith}
 use lib.Dec.{eqb}
 use lib.ListN.{length}
 use borrow.Author.Tests.{eq-eqb, ne-eqb}
-use Rattle.words.specs.Rule.{bit, tally, times, count}
-use Rattle.words.specs.Table.{Each}
+use Rattle.words.specs.Rules.{bit, tally, times, count}
+use Rattle.words.specs.Tables.{Each}
 
 pub bit-same : (p : ℕ) → bit (eqb p p) ≡ 1
 unfolding bit
@@ -72,6 +72,15 @@ count-append p a b = times-append (λ q. eqb q p) a b
 pub count-none : (p : ℕ) → count p [] ≡ 0
 unfolding count times
 count-none p = refl
+
+-- a list in which nothing stands
+pub none-counted : (l : List ℕ) → ((p : ℕ) → count p l ≡ 0) → l ≡ []
+unfolding count times bit
+none-counted [] h = refl
+none-counted (q ∷ l) h =
+    let e : eqb q q ≡ true = eq-eqb q q refl in
+    let k = rw e at (h q) in
+    absurd (omega (arith, k))
 
 pub count-snoc : (p q : ℕ) (l : List ℕ) → count p (l ++ (q ∷ [])) ≡ bit (eqb q p) + count p l
 count-snoc p q l = count-append p l (q ∷ []) ∙ omega (arith, count-cons p q [], count-none p)

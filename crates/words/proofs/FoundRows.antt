@@ -9,8 +9,8 @@ use native.Mathlib.Nat.{not-suc-le-zero, le-of-suc-le-suc}
 use native.Mathlib.Omega.{arith}
 use lib.Dec.{eqb}
 use lib.ListN.{length, getD}
-use Rattle.words.specs.Rule.{pick, bit, count}
-use Rattle.words.specs.Table.{Each, Asc, find, insertAt}
+use Rattle.words.specs.Rules.{pick, bit, count}
+use Rattle.words.specs.Tables.{Each, Asc, find, insertAt}
 use Rattle.words.proofs.Counting.{count-cons, bit-same}
 
 -- ---- what a search finds

@@ -4,7 +4,7 @@ use mathlib.Core.Path.{_≡_, refl}
 use mathlib.Core.Bool.{Bool, true, false, false≢true, true≢false}
 use mathlib.Core.Logic.{_⊎_, inl, inr}
 use Prim.Native.Nat.{ℕ, zero, suc}
-use Rattle.words.specs.Rule.{both, either, upto}
+use Rattle.words.specs.Rules.{both, either, upto}
 
 pub both-false : (a : Bool) → both a false ≡ false
 unfolding both

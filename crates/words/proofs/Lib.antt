@@ -13,4 +13,6 @@ pub mod Pieces
 pub mod Areas
 pub mod Search
 pub mod FoundRows
-pub mod Turns
+pub mod WriteLoops
+pub mod Only
+pub mod Runs

@@ -6,7 +6,7 @@ use mathlib.Core.List.{List, [], _∷_, _++_}
 use Prim.Native.Nat.{ℕ, zero, suc, _+_, _<_}
 use native.Mathlib.Nat.{not-suc-le-zero, le-of-suc-le-suc, zero-add, suc-add}
 use lib.ListN.{set, length, take, drop, getD}
-use Rattle.words.specs.Table.{insertAt, lead, leadOf, Each, removeAt, Asc}
+use Rattle.words.specs.Tables.{insertAt, lead, leadOf, Each, Asc}
 
 pub each-at : {R : Type 0} (P : R → Type 0) (rs : List R) (i : ℕ) (d : R) → Each P rs → i < length rs → P (getD rs i d)
 unfolding Each
@@ -49,14 +49,6 @@ pub each-map : {R : Type 0} (P Q : R → Type 0) (f : (r : R) → P r → Q r) (
 unfolding Each
 each-map P Q f [] h = tt
 each-map P Q f (r ∷ rs) h = (f r (h .0), each-map P Q f rs (h .1))
-
--- after n were taken out from p on
-pub each-rest : {R : Type 0} (P : R → Type 0) (p n : ℕ) (rs : List R) → Each P rs → Each P (take p rs ++ drop (p + n) rs)
-each-rest P p n rs h = each-append P (take p rs) (drop (p + n) rs) (each-take P p rs h) (each-drop P (p + n) rs h)
-
-pub each-remove : {R : Type 0} (P : R → Type 0) (p : ℕ) (rs : List R) → Each P rs → Each P (removeAt p rs)
-unfolding removeAt
-each-remove P p rs h = each-rest P p 1 rs h
 
 -- after one was set
 pub each-set : {R : Type 0} (P : R → Type 0) (rs : List R) (i : ℕ) (r : R) → Each P rs → P r → Each P (set rs i r)

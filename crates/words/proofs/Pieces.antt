@@ -7,7 +7,7 @@ use native.Mathlib.Nat.{add-zero, mul-zero, mul-suc, mul-add, add-comm}
 use native.Mathlib.Omega.{arith}
 use lib.ListN.{length, take, drop, getD}
 use Rattle.words.specs.Bytes.{part, zeros, spell, num, word, Bytes}
-use Rattle.words.specs.Table.{table, layAll, layWords, area, joined, Each}
+use Rattle.words.specs.Tables.{table, layAll, layWords, area, joined, Each}
 use Rattle.words.proofs.Parts.{part-add, part-zero, part-mid, length-zeros}
 use Rattle.words.proofs.Numbers.{num-mid, spell-num}
 use Rattle.words.proofs.Tables.{joined-cut, length-table, length-layAll}

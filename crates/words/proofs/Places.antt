@@ -6,15 +6,15 @@ use Prim.Native.Nat.{ℕ, zero, suc, _+_, _-_, _<_}
 use native.Mathlib.Numerals.{add-one}
 use native.Mathlib.Omega.{arith}
 use lib.ListN.{length, getD}
-use Rattle.words.specs.Rule.{upto}
-use Rattle.words.specs.Table.{Each, Asc}
+use Rattle.words.specs.Rules.{upto}
+use Rattle.words.specs.Tables.{Each, Asc}
 use Rattle.words.proofs.Order.{each-at, each-map}
 use Rattle.words.proofs.Rules.{Says, says-map, says-upto}
 
 -- ---- every place, every row
 
 module _ {R : Type 0} (P : R → Type 0) (d : R) where
-  places-each : (rs : List R) → ((i : ℕ) → i < length rs → P (getD rs i d)) → Each P rs
+  pub places-each : (rs : List R) → ((i : ℕ) → i < length rs → P (getD rs i d)) → Each P rs
   unfolding Each
   places-each [] h = tt
   places-each (r ∷ rs) h = (h 0 (omega arith), places-each rs (λ i b. h (suc i) (omega arith)))

@@ -12,7 +12,7 @@ use native.Mathlib.Decide.{decLt}
 use lib.Dec.{eqb, ltb, leb}
 use borrow.Author.Tests.{eqb-true, eqb-false, ltb-true, ltb-false, leb-true, leb-false, eq-eqb, ne-eqb, le-leb, lt-leb, not-true, not-false}
 use lib.ListN.{length, getD}
-use Rattle.words.specs.Rule.{pick, both, either, upto, bit, tally, times}
+use Rattle.words.specs.Rules.{pick, both, either, upto, bit, tally, times}
 use Rattle.words.proofs.Joined.{both-false}
 use Rattle.words.proofs.Counting.{bit-most}
 

@@ -13,8 +13,8 @@ use lib.ListN.{length, drop, getD, drop-of-length-le}
 use lib.Seq.{drop-cons}
 use borrow.Author.Tests.{ne-eqb}
 use Rattle.words.specs.Bytes.{part}
-use Rattle.words.specs.Rule.{pick}
-use Rattle.words.specs.Table.{Asc, Each, Falls, find, insertAt, lead, leadOf, table}
+use Rattle.words.specs.Rules.{pick}
+use Rattle.words.specs.Tables.{Asc, Each, Falls, find, insertAt, lead, leadOf, table}
 use Rattle.words.proofs.Order.{each-at, each-map}
 use Rattle.words.proofs.Tables.{length-table, table-at}
 

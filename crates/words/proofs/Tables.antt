@@ -9,7 +9,7 @@ use native.Mathlib.Omega.{arith}
 use lib.ListN.{length, take, drop, getD, set, length-append, length-drop, length-set, take-append-drop}
 use lib.Seq.{take-append-add, take-at, drop-at, length-take-le, set-split, split-at, take-length, drop-length}
 use Rattle.words.specs.Bytes.{part, over, zeros, padded, value, spell, num}
-use Rattle.words.specs.Table.{layAll, table, insertAt, joined, area, layWords, Each, removeAt}
+use Rattle.words.specs.Tables.{layAll, table, insertAt, joined, area, layWords, Each}
 use Rattle.words.proofs.Parts.{length-zeros, zeros-add, over-mid, part-mid, part-in, over-in, part-zero}
 use Rattle.words.proofs.Numbers.{length-spell, value-spell}
 use Rattle.words.proofs.Order.{each-at}
@@ -168,46 +168,6 @@ pub drop-joined : (ls : List (List ℕ)) (k at : ℕ) → length (joined (take k
 drop-joined ls k at e =
     let c : joined ls ≡ joined (take k ls) ++ joined (drop k ls) = rw take-append-drop at (joined-append (take k ls) (drop k ls)) in
     rw c (drop-at (joined (take k ls)) (joined (drop k ls)) at e)
-
-pub length-removeAt : {R : Type 0} (p : ℕ) (rs : List R) → p < length rs → length (removeAt p rs) + 1 ≡ length rs
-unfolding removeAt
-length-removeAt p rs h =
-    let k : p ≤ length rs = omega arith in
-    simp (length-append, length-take-le p rs k, length-drop) (omega arith)
-
-module _ {R : Type 0} (lay : R → List ℕ) (s : ℕ) (sized : (r : R) → length (lay r) ≡ s) where
-  remove₂ : (A : List ℕ) (a b : List R) (r : R) (C : List ℕ) (at n : ℕ) → length A + length (layAll lay a) ≡ at → length (layAll lay b) ≡ n
-      → over (A ++ (layAll lay (a ++ (r ∷ b)) ++ C)) at (part (A ++ (layAll lay (a ++ (r ∷ b)) ++ C)) (at + s) n ++ zeros s) ≡ A ++ (layAll lay (a ++ b) ++ (zeros s ++ C))
-  unfolding layAll
-  remove₂ A a b r C at n e h =
-      let T = layAll lay a in
-      let D = layAll lay b in
-      let g : A ++ (layAll lay (a ++ (r ∷ b)) ++ C) ≡ (A ++ T) ++ ((lay r ++ D) ++ C) = simp (layAll-append lay a (r ∷ b), append-assoc) in
-      let q : length (A ++ T) ≡ at = length-append A T ∙ e in
-      let w : length ((A ++ T) ++ lay r) ≡ at + s = rw (length-append, q, sized r) in
-      let x : (A ++ T) ++ ((lay r ++ D) ++ C) ≡ ((A ++ T) ++ lay r) ++ (D ++ C) = simp append-assoc in
-      let p : part ((A ++ T) ++ ((lay r ++ D) ++ C)) (at + s) n ≡ D = rw x (part-mid ((A ++ T) ++ lay r) D C (at + s) n w h) in
-      let y : length (lay r ++ D) ≡ length (D ++ zeros s) = simp (length-append, sized r, length-zeros) (omega arith) in
-      rw (g, p, over-mid (A ++ T) (lay r ++ D) C (D ++ zeros s) at q y, layAll-append lay a b) (simp append-assoc)
-
-  remove-d : (d : R) (room : ℕ) (rs : List R) (p : ℕ) → p < length rs → length rs ≤ room
-      → over (area lay s room rs) (s * p) (part (area lay s room rs) (s * p + s) (s * (length rs - (p + 1))) ++ zeros s) ≡ area lay s room (removeAt p rs)
-  unfolding area removeAt
-  remove-d d room rs p h k =
-      let Z = zeros (s * (room - length rs)) in
-      let b : length (layAll lay (drop (suc p) rs)) ≡ s * (length rs - (p + 1)) =
-      length-layAll lay s sized (drop (suc p) rs) ∙ ap (λ (n : ℕ). s * n) (length-drop (suc p) rs ∙ ap (λ (n : ℕ). length rs - n) (sym (add-one p))) in
-      let a : 0 + length (layAll lay (take p rs)) ≡ s * p = zero-add _ ∙ length-front lay s sized rs p (omega arith) in
-      let m : room - length (removeAt p rs) ≡ (room - length rs) + 1 = omega (arith, length-removeAt p rs h) in
-      let q : s * (room - length (removeAt p rs)) ≡ s + s * (room - length rs) = rw (m, mul-add, mul-one) (add-comm (s * (room - length rs)) s) in
-      let z : zeros s ++ Z ≡ zeros (s * (room - length (removeAt p rs))) = zeros-add s (s * (room - length rs)) ∙ ap zeros (sym q) in
-      let u = rw (← split-at rs p d h) at (remove₂ [] (take p rs) (drop (suc p) rs) (getD rs p d) Z (s * p) (s * (length rs - (p + 1))) a b) in
-      u ∙ rw (z, add-one)
-
-  pub remove-area : (room : ℕ) (rs : List R) (p : ℕ) → p < length rs → length rs ≤ room
-      → over (area lay s room rs) (s * p) (part (area lay s room rs) (s * p + s) (s * (length rs - (p + 1))) ++ zeros s) ≡ area lay s room (removeAt p rs)
-  remove-area room [] p h k = absurd (not-suc-le-zero h)
-  remove-area room (r ∷ rs) p h k = remove-d r room (r ∷ rs) p h k
 
 -- word k of the first area written over
 pub put-word : (ws : List ℕ) (ls : List (List ℕ)) (k x : ℕ) → k < length ws → over (joined (layWords ws ∷ ls)) (8 * k) (spell 8 x) ≡ joined (layWords (set ws k x) ∷ ls)

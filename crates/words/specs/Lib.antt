@@ -1,3 +1,3 @@
 pub mod Bytes
-pub mod Rule
-pub mod Table
+pub mod Rules
+pub mod Tables

@@ -7,7 +7,7 @@ ghost use Prim.Native.Nat.{_+_, _≤_, _<_};
 ghost use lib.ListN.{length, take};
 ghost use lib.Dec.{eqb};
 ghost use Rattle.words.specs.Bytes.{part};
-ghost use Rattle.words.specs.Rule.{same, allZero};
+ghost use Rattle.words.specs.Rules.{same, allZero};
 
 // Whether two byte strings are equal.
 pub fn same(a: &[u8], b: &[u8]) -> bool

@@ -4,7 +4,7 @@ ghost use Prim.Native.Nat.{_+_, _-_, _≤_};
 ghost use lib.ListN.{length};
 ghost use Rattle.words.specs.Bytes.{part, over, zeros};
 
-// The bytes of src, from index at.
+// Copies src to index at.
 pub fn copy(v: &mut [u8], at: usize, src: &[u8])
     requires { ⌜ at + length (now src) ≤ length (now v) ⌝ }
     ensures { λ _. ⌜ now (v .exit) ≡ over (now (v .entry)) at (now (src .entry)) ⌝ }
@@ -16,7 +16,7 @@ pub fn copy(v: &mut [u8], at: usize, src: &[u8])
     }
 }
 
-// n zeros, from index at.
+// Writes n zeros from index at.
 pub fn clear(v: &mut [u8], at: usize, n: usize)
     requires { ⌜ at + n ≤ length (now v) ⌝ }
     ensures { λ _. ⌜ now (v .exit) ≡ over (now (v .entry)) at (zeros n) ⌝ }
@@ -28,7 +28,7 @@ pub fn clear(v: &mut [u8], at: usize, n: usize)
     }
 }
 
-// The bytes from index from up to, not including, index to, moved up by so many. The last goes first, so that none is lost.
+// Moves the bytes from index from to before index to up by a distance. The last goes first, so that none is lost.
 pub fn shift_up(v: &mut [u8], from: usize, to: usize, by: usize)
     requires { ⌜ (from ≤ to) × (to + by ≤ length (now v)) ⌝ }
     ensures { λ _. ⌜ now (v .exit) ≡ over (now (v .entry)) (from + by) (part (now (v .entry)) from (to - from)) ⌝ }
@@ -40,7 +40,7 @@ pub fn shift_up(v: &mut [u8], from: usize, to: usize, by: usize)
     }
 }
 
-// The same, moved down: the first goes first.
+// Moves the same bytes down by a distance. The first goes first.
 pub fn shift_down(v: &mut [u8], from: usize, to: usize, by: usize)
     requires { ⌜ (by ≤ from) × ((from ≤ to) × (to ≤ length (now v))) ⌝ }
     ensures { λ _. ⌜ now (v .exit) ≡ over (now (v .entry)) (from - by) (part (now (v .entry)) from (to - from)) ⌝ }

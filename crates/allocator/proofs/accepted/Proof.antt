@@ -1,5 +1,5 @@
 use Rattle.allocator.proofs.accepted.Statement.{statement}
-use Rattle.allocator.proofs.Sized.{accepted-1, accepted-2, accepted-3, accepted-none}
+use Rattle.allocator.proofs.Sizes.{accepted-1, accepted-2, accepted-3, accepted-none}
 use Rattle.allocator.proofs.accepted.Tie as tie
 
 returns : tie.Need-returns

@@ -1,49 +1,35 @@
 use borrow.Author.Needs.{needs}
 use Rattle.allocator.proofs.is_marked.Statement.{statement}
 use Rattle.allocator.proofs.is_marked.Tie as tie
-use Rattle.allocator.proofs.is_marked.Reads as reads
-use Rattle.allocator.proofs.is_marked.Lts as lts
-use Rattle.allocator.proofs.accepted.Reads as accepted-reads
-use Rattle.allocator.proofs.chunk_size.Reads as chunk-size-reads
-use Rattle.allocator.proofs.get_len.Reads as get-len-reads
-use Rattle.words.proofs.get64.Reads as get64-reads
 use Rattle.words.proofs.Rules.{stop, go-on, is-yes, is-no, call-yes, call-no, by1, le-as}
 use Rattle.allocator.specs.Sizes.{acceptedSize}
 use Rattle.allocator.specs.Words.{wellMarked}
 use mathlib.Core.Path.{refl}
 
--- src/lib.rt:151:8
 get64-requires : tie.Need-get64-requires
 get64-requires c κs = search needs
 
--- src/lib.rt:152:9
 returns : tie.Need-returns
 unfolding wellMarked
 returns c = stop _ _ (is-no (c .before .get64 .ensures) (c .if1 .taken))
 
--- src/lib.rt:154:18
 chunk-size-requires : tie.Need-chunk-size-requires
 chunk-size-requires c κs = search needs
 
--- src/lib.rt:154:9
 accepted-requires : tie.Need-accepted-requires
 accepted-requires c κs = search needs
 
--- src/lib.rt:155:9
 returns-2 : tie.Need-returns-2
 unfolding wellMarked
 returns-2 c =
     go-on _ _ (is-yes (c .before .before .before .before .get64 .ensures) (c .before .before .before .if1 .left)) (stop _ _ (call-no (by1 acceptedSize (c .before .accepted .ensures) (c .before .before .chunk-size .ensures)) (c .if2 .taken)))
 
--- src/lib.rt:157:5
 get-len-requires : tie.Need-get-len-requires
 get-len-requires c κs = search needs
 
--- src/lib.rt:157:24
 sub-result : tie.Need-sub-result
 sub-result c = search needs
 
--- src/lib.rt:147:1
 returns-3 : tie.Need-returns-3
 unfolding wellMarked
 returns-3 c =

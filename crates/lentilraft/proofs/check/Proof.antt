@@ -2,19 +2,25 @@ use borrow.Author.Needs.{needs}
 use Rattle.lentilraft.proofs.check.Statement.{statement}
 use Rattle.lentilraft.proofs.check.Tie as tie
 use denote.Ref.{now}
-use Rattle.words.proofs.Rules.{call-yes, call-no}
-use Rattle.lentilraft.proofs.Doors.{check-open, check-shut}
+use Rattle.soundness.proofs.Checked.{not-opened, opened-sound}
+use Rattle.lentilraft.proofs.Door.{check-open, check-shut}
 
-sound-requires : tie.Need-sound-requires
-sound-requires c κs = search needs
+open-requires : tie.Need-open-requires
+open-requires c κs = search needs
+
+enum-told : tie.Need-enum-told
+enum-told c = search needs
+
+enum-told-2 : tie.Need-enum-told-2
+enum-told-2 c = search needs
 
 returns : tie.Need-returns
 returns c =
-    check-shut (now (c .before .before .before .args .volume)) (call-no (c .before .sound .ensures) (c .if1 .taken))
+    check-open (now (c .before .before .before .before .args .volume)) (opened-sound (now (c .before .before .before .before .args .volume)) (c .before .before .«open» .ensures) (c .before .match .keys1))
 
 returns-2 : tie.Need-returns-2
 returns-2 c =
-    check-open (now (c .before .before .before .args .volume)) (call-yes (c .before .sound .ensures) (c .if1 .left))
+    check-shut (now (c .before .before .before .before .args .volume)) (not-opened (now (c .before .before .before .before .args .volume)) (c .before .before .«open» .ensures) (c .before .match .keys2))
 
 pub check-spec : {M : Type 1} → statement M
-check-spec = tie.close (tie.spec sound-requires returns returns-2)
+check-spec = tie.close (tie.spec open-requires enum-told enum-told-2 returns returns-2)

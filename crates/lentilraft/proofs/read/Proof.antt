@@ -4,27 +4,29 @@ use Rattle.lentilraft.proofs.read.Tie as tie
 use denote.Ref.{now}
 use native.Mathlib.Omega.{arith}
 use Rattle.words.specs.Bytes.{Bytes}
-use Rattle.words.proofs.Rules.{call-yes, call-no}
-use Rattle.chunks.specs.Read as Read
+use Rattle.soundness.proofs.Checked.{not-opened, opened-sound, opened-good, opened-ready}
+use Rattle.files.specs.Read as Read
 use Rattle.lentilraft.specs.Door.{read}
-use Rattle.lentilraft.proofs.Doors.{door-headed, door-good, door-ready, into-shut, into-open}
+use Rattle.lentilraft.proofs.Door.{into-shut, into-open}
 
-sound-requires : tie.Need-sound-requires
-sound-requires c κs = search needs
+open-requires : tie.Need-open-requires
+open-requires c κs = search needs
+
+enum-known-layout : tie.Need-enum-known-layout
+enum-known-layout c = search needs
+
+enum-told : tie.Need-enum-told
+enum-told c = search needs
 
 returns : tie.Need-returns
 unfolding read
 returns c =
-    into-shut (now (c .before .before .before .before .args .volume)) (now (c .before .before .before .before .args .buffer)) (Read.read (c .before .before .before .before .args .node) (c .before .before .before .before .args .offset)) (call-no (c .before .sound .ensures) (c .if1 .taken))
-
-read-layout-requires : tie.Need-read-layout-requires
-read-layout-requires c κs =
-    door-headed (now (c .before .before .before .before .args .volume)) (call-yes (c .before .sound .ensures) (c .if1 .left))
+    into-shut (now (c .before .before .before .before .before .args .volume)) (now (c .before .before .before .before .before .args .buffer)) (Read.read (c .before .before .before .before .before .args .node) (c .before .before .before .before .before .args .offset)) (not-opened (now (c .before .before .before .before .before .args .volume)) (c .before .before .«open» .ensures) (c .before .match .keys2))
 
 read-requires : tie.Need-read-requires
 unfolding Bytes
 read-requires c κs =
-    (door-ready (now (c .before .before .before .before .before .before .args .volume)) (call-yes (c .before .before .before .sound .ensures) (c .before .before .if1 .left)) (λ i. omega (arith, c .before .before .before .before .before .shared-slice-known .given i)) (c .before .read-layout .ensures), door-good (now (c .before .before .before .before .before .before .args .volume)) (call-yes (c .before .before .before .sound .ensures) (c .before .before .if1 .left)))
+    (opened-ready (now (c .before .before .before .before .before .before .before .args .volume)) (c .before .before .before .before .«open» .ensures) (c .before .before .layout .given .1) (λ i. omega (arith, c .before .before .before .before .before .before .shared-slice-known .given i)), opened-good (now (c .before .before .before .before .before .before .before .args .volume)) (c .before .before .before .before .«open» .ensures) (c .before .before .before .match .keys1))
 
 same-length : tie.Need-same-length
 same-length c = search needs
@@ -32,9 +34,16 @@ same-length c = search needs
 returns-2 : tie.Need-returns-2
 unfolding read
 returns-2 c =
-    into-open (now (c .before .before .before .before .before .before .before .before .before .args .volume)) (now (c .before .before .before .before .before .before .before .before .before .args .buffer)) (Read.read (c .before .before .before .before .before .before .before .before .before .args .node) (c .before .before .before .before .before .before .before .before .before .args .offset)) (call-yes (c .before .before .before .before .before .before .sound .ensures) (c .before .before .before .before .before .if1 .left)) (c .before .before .read .ensures)
+    into-open (now (c .before .before .before .before .before .before .before .before .before .before .args .volume)) (now (c .before .before .before .before .before .before .before .before .before .before .args .buffer)) (Read.read (c .before .before .before .before .before .before .before .before .before .before .args .node) (c .before .before .before .before .before .before .before .before .before .before .args .offset)) (opened-sound (now (c .before .before .before .before .before .before .before .before .before .before .args .volume)) (c .before .before .before .before .before .before .before .«open» .ensures) (c .before .before .before .before .before .before .match .keys1)) (c .before .before .read .ensures)
 
 pub read-spec : {M : Type 1} → statement M
 read-spec =
     tie.close
-    (tie.spec sound-requires returns read-layout-requires read-requires same-length returns-2)
+    (tie.spec
+    open-requires
+    enum-known-layout
+    enum-told
+    returns
+    read-requires
+    same-length
+    returns-2)

@@ -4,7 +4,7 @@ use mathlib.Core.Path.{refl}
 use denote.Ref.{now}
 use lib.ListN.{replicate}
 use Prim.Native.Nat.{ℕ}
-use Rattle.paths.proofs.Told.{cut-told}
+use Rattle.paths.proofs.Bounds.{cut-told}
 use Rattle.path_vectors.proofs.check_cut.Tie as tie
 
 get-path-parts-requires : tie.Need-get-path-parts-requires

@@ -6,7 +6,7 @@ use Prim.Native.Nat.{ℕ, _+_, _-_, _≤_, _<_}
 use lib.ListN.{length, getD}
 use denote.Ref.{now}
 use native.Mathlib.Omega.{arith}
-use Rattle.paths.proofs.Told.{Fit}
+use Rattle.paths.proofs.Bounds.{Fit}
 use Rattle.path_vectors.proofs.compare_parts.Tie as tie
 
 -- the bounds of a part, as they are read from the arrays, lie in the path

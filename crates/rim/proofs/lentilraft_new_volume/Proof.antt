@@ -1,7 +1,7 @@
 use borrow.Author.Needs.{needs}
 use Rattle.rim.proofs.lentilraft_new_volume.Statement.{statement}
 use Rattle.rim.proofs.lentilraft_new_volume.Tie as tie
-use Rattle.rim.proofs.Told.{told-number}
+use Rattle.types.proofs.Outcomes.{told-number}
 
 new-volume-requires : tie.Need-new-volume-requires
 new-volume-requires c κs = search needs

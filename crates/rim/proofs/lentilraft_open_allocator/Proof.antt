@@ -1,7 +1,7 @@
 use borrow.Author.Needs.{needs}
 use Rattle.rim.proofs.lentilraft_open_allocator.Statement.{statement}
 use Rattle.rim.proofs.lentilraft_open_allocator.Tie as tie
-use Rattle.rim.proofs.Told.{told-number}
+use Rattle.types.proofs.Outcomes.{told-number}
 
 open-requires : tie.Need-open-requires
 open-requires c κs = search needs

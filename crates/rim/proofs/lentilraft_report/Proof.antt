@@ -1,7 +1,7 @@
 use borrow.Author.Needs.{needs}
 use Rattle.rim.proofs.lentilraft_report.Statement.{statement}
 use Rattle.rim.proofs.lentilraft_report.Tie as tie
-use Rattle.rim.proofs.Told.{told-number, told-value}
+use Rattle.types.proofs.Outcomes.{told-number, told-value}
 
 report-requires : tie.Need-report-requires
 report-requires c κs = search needs

@@ -1,7 +1,7 @@
 use borrow.Author.Needs.{needs}
 use Rattle.rim.proofs.lentilraft_set_chunk_size.Statement.{statement}
 use Rattle.rim.proofs.lentilraft_set_chunk_size.Tie as tie
-use Rattle.rim.proofs.Told.{told-number}
+use Rattle.types.proofs.Outcomes.{told-number}
 
 set-chunk-size-requires : tie.Need-set-chunk-size-requires
 set-chunk-size-requires c κs = search needs

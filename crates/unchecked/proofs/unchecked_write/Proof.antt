@@ -1,44 +1,32 @@
 use borrow.Author.Needs.{needs}
 use Rattle.unchecked.proofs.unchecked_write.Statement.{statement}
 use Rattle.unchecked.proofs.unchecked_write.Tie as tie
-use Rattle.unchecked.proofs.unchecked_write.Reads as reads
-use Rattle.unchecked.proofs.unchecked_write.Lts as lts
-use Rattle.chunks.proofs.write.Reads as write-reads
-use Rattle.types.proofs.number.Reads as number-reads
-use Rattle.types.proofs.value.Reads as value-reads
-use Rattle.volume.proofs.read_layout.Reads as read-layout-reads
 use denote.Ref.{now}
 use native.Mathlib.Omega.{arith}
 use Rattle.words.specs.Bytes.{Bytes}
-use Rattle.soundness.proofs.Checked.{true-sound}
-use Rattle.chunks.specs.Write as Write
+use Rattle.soundness.proofs.Checked.{true-sound, framed-ready}
+use Rattle.files.specs.Write as Write
 use Rattle.lentilraft.specs.Door.{write}
-use Rattle.lentilraft.proofs.Doors.{door-ready, door-open}
-use Rattle.rim.proofs.Told.{told-number, told-value}
+use Rattle.lentilraft.proofs.Door.{door-open}
+use Rattle.types.proofs.Outcomes.{told-number, told-value}
 
--- src/lib.rt:36:9
 read-layout-requires : tie.Need-read-layout-requires
 read-layout-requires c κs = search needs
 
--- src/lib.rt:37:9
 write-requires : tie.Need-write-requires
 unfolding Bytes
 write-requires c κs =
-    (door-ready (now (c .before .before .before .before .before .args .volume)) (true-sound (now (c .before .before .before .before .before .args .volume)) (c .before .before .before .before .before .pre)) (λ i. omega (arith, c .before .before .before .before .slice-known .given i)) (c .before .read-layout .ensures), (c .before .before .before .before .before .pre) .good)
+    (framed-ready (now (c .before .before .before .before .before .args .volume)) (λ i. omega (arith, c .before .before .before .before .slice-known .given i)) ((c .before .before .before .before .before .pre) .framed) (c .before .read-layout .ensures), (c .before .before .before .before .before .pre) .good)
 
--- src/lib.rt:38:14
 value-requires : tie.Need-value-requires
 value-requires c κs = search needs
 
--- src/lib.rt:39:5
 number-requires : tie.Need-number-requires
 number-requires c κs = search needs
 
--- src/lib.rt:25:1
 same-length : tie.Need-same-length
 same-length c = search needs
 
--- src/lib.rt:25:1
 returns : tie.Need-returns
 unfolding write
 returns c =

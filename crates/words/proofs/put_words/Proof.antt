@@ -6,9 +6,9 @@ use denote.Ref.{now}
 use lib.ListN.{length, take}
 use lib.Seq.{take-all}
 use Rattle.words.specs.Bytes.{over}
-use Rattle.words.specs.Table.{layAll, layWords}
+use Rattle.words.specs.Tables.{layAll, layWords}
 use Rattle.words.proofs.Parts.{over-nil}
-use Rattle.words.proofs.Turns.{words-turn}
+use Rattle.words.proofs.WriteLoops.{words-turn}
 use Rattle.words.proofs.put_words.Statement.{statement}
 use Rattle.words.proofs.put_words.Tie as tie
 

@@ -5,7 +5,7 @@ use mathlib.Core.Path.{_≡_, ap, _∙_}
 use mathlib.Core.Bool.{true}
 use Prim.Native.Nat.{_-_, _≤_}
 use native.Mathlib.Omega.{arith}
-use Rattle.words.specs.Rule.{upto}
+use Rattle.words.specs.Rules.{upto}
 use Rattle.words.proofs.Rules.{upto-start, upto-turn, upto-fail, upto-end, call-yes, call-no}
 use Rattle.allocator.specs.Opening.{lined, freeWord}
 use Rattle.allocator.proofs.opening.all_lined.Tie as tie

@@ -2,53 +2,51 @@ use borrow.Author.Needs.{needs}
 use Rattle.soundness.proofs.check.is_good.Statement.{statement}
 use Rattle.soundness.proofs.check.is_good.Tie as tie
 use denote.Ref.{now}
+use native.Mathlib.Omega.{arith}
 use Rattle.words.proofs.Rules.{stop, go-on, call-yes, call-no, says-true}
 use Rattle.volume.specs.Volume.{shown}
-use Rattle.soundness.specs.Check.{good}
-use Rattle.soundness.proofs.Checked.{says-ordered, sizes-most}
+use Rattle.soundness.specs.Checked.{good}
+use Rattle.soundness.proofs.Checked.{says-named, says-stored}
 
-is-ordered-requires : tie.Need-is-ordered-requires
-is-ordered-requires c κs = search needs
+is-named-requires : tie.Need-is-named-requires
+is-named-requires c κs = search needs
 
 returns : tie.Need-returns
 unfolding good
-returns c = stop _ _ (call-no (c .before .is-ordered .ensures) (c .if1 .taken))
+returns c = stop _ _ (call-no (c .before .is-named .ensures) (c .if1 .taken))
 
-is-numbered-requires : tie.Need-is-numbered-requires
-is-numbered-requires c κs = search needs
+chunk-size-requires : tie.Need-chunk-size-requires
+chunk-size-requires c κs = search needs
+
+is-stored-requires : tie.Need-is-stored-requires
+is-stored-requires c κs = (c .before .before .before .before .pre, c .chunk-size .ensures .0)
 
 returns-2 : tie.Need-returns-2
 unfolding good
 returns-2 c =
-    go-on _ _ (call-yes (c .before .before .before .is-ordered .ensures) (c .before .before .if1 .left)) (stop _ _ (call-no (c .before .is-numbered .ensures) (c .if2 .taken)))
+    go-on _ _ (call-yes (c .before .before .before .before .is-named .ensures) (c .before .before .before .if1 .left)) (stop _ _ (call-no (c .before .is-stored .ensures) (c .if2 .taken)))
 
-is-related-requires : tie.Need-is-related-requires
-is-related-requires c κs =
-    (c .before .before .before .before .before .pre, (says-true (says-ordered (shown (now (c .before .before .before .before .before .args .volume)))) (call-yes (c .before .before .before .is-ordered .ensures) (c .before .before .if1 .left))) .0, (says-true (says-ordered (shown (now (c .before .before .before .before .before .args .volume)))) (call-yes (c .before .before .before .is-ordered .ensures) (c .before .before .if1 .left))) .1 .0)
+is-owned-requires : tie.Need-is-owned-requires
+is-owned-requires c κs = (
+  c .before .before .before .before .before .before .pre,
+  says-true (says-named (shown (now (c .before .before .before .before .before .before .args .volume)) .names)) (call-yes (c .before .before .before .before .is-named .ensures) (c .before .before .before .if1 .left)),
+  says-true (says-stored (shown (now (c .before .before .before .before .before .before .args .volume)) .store) (omega (arith, c .before .before .chunk-size .ensures))) (call-yes (c .before .is-stored .ensures) (c .if2 .left)),
+  c .before .before .chunk-size .ensures .0,
+)
 
 returns-3 : tie.Need-returns-3
 unfolding good
 returns-3 c =
-    go-on _ _ (call-yes (c .before .before .before .before .before .is-ordered .ensures) (c .before .before .before .before .if1 .left)) (go-on _ _ (call-yes (c .before .before .before .is-numbered .ensures) (c .before .before .if2 .left)) (stop _ _ (call-no (c .before .is-related .ensures) (c .if3 .taken))))
-
-is-stored-requires : tie.Need-is-stored-requires
-is-stored-requires c κs =
-    (c .before .before .before .before .before .before .before .pre, (says-true (says-ordered (shown (now (c .before .before .before .before .before .before .before .args .volume)))) (call-yes (c .before .before .before .before .before .is-ordered .ensures) (c .before .before .before .before .if1 .left))) .0, sizes-most (shown (now (c .before .before .before .before .before .before .before .args .volume))) (c .before .before .before .before .before .before .before .pre .formed .fits) (call-yes (c .before .is-related .ensures) (c .if3 .left)) ((says-true (says-ordered (shown (now (c .before .before .before .before .before .before .before .args .volume)))) (call-yes (c .before .before .before .before .before .is-ordered .ensures) (c .before .before .before .before .if1 .left))) .0) ((says-true (says-ordered (shown (now (c .before .before .before .before .before .before .before .args .volume)))) (call-yes (c .before .before .before .before .before .is-ordered .ensures) (c .before .before .before .before .if1 .left))) .1 .0))
-
-returns-4 : tie.Need-returns-4
-unfolding good
-returns-4 c =
-    go-on _ _ (call-yes (c .before .before .before .before .before .before .is-ordered .ensures) (c .before .before .before .before .before .if1 .left)) (go-on _ _ (call-yes (c .before .before .before .before .is-numbered .ensures) (c .before .before .before .if2 .left)) (go-on _ _ (call-yes (c .before .before .is-related .ensures) (c .before .if3 .left)) (c .is-stored .ensures)))
+    go-on _ _ (call-yes (c .before .before .before .before .before .is-named .ensures) (c .before .before .before .before .if1 .left)) (go-on _ _ (call-yes (c .before .before .is-stored .ensures) (c .before .if2 .left)) (c .is-owned .ensures))
 
 pub is-good-spec : {M : Type 1} → statement M
 is-good-spec =
     tie.close
     (tie.spec
-    is-ordered-requires
+    is-named-requires
     returns
-    is-numbered-requires
-    returns-2
-    is-related-requires
-    returns-3
+    chunk-size-requires
     is-stored-requires
-    returns-4)
+    returns-2
+    is-owned-requires
+    returns-3)

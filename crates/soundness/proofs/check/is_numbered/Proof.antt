@@ -2,7 +2,7 @@ use borrow.Author.Needs.{needs}
 use Rattle.soundness.proofs.check.is_numbered.Statement.{statement}
 use Rattle.soundness.proofs.check.is_numbered.Tie as tie
 use Rattle.words.proofs.Rules.{stop, go-on, call-yes, call-no}
-use Rattle.soundness.specs.Check.{numbered}
+use Rattle.soundness.specs.Checked.{numbered}
 
 entries-indexed-requires : tie.Need-entries-indexed-requires
 entries-indexed-requires c κs = search needs

@@ -2,7 +2,7 @@ use borrow.Author.Needs.{needs}
 use Rattle.soundness.proofs.check.is_ordered.Statement.{statement}
 use Rattle.soundness.proofs.check.is_ordered.Tie as tie
 use Rattle.words.proofs.Rules.{stop, go-on, call-yes, call-no}
-use Rattle.soundness.specs.Check.{ordered}
+use Rattle.soundness.specs.Checked.{ordered}
 
 nodes-ascend-requires : tie.Need-nodes-ascend-requires
 nodes-ascend-requires c κs = search needs
@@ -17,23 +17,8 @@ entries-ascend-requires c κs = search needs
 returns-2 : tie.Need-returns-2
 unfolding ordered
 returns-2 c =
-    go-on _ _ (call-yes (c .before .before .before .nodes-ascend .ensures) (c .before .before .if1 .left)) (stop _ _ (call-no (c .before .entries-ascend .ensures) (c .if2 .taken)))
-
-chunks-ascend-requires : tie.Need-chunks-ascend-requires
-chunks-ascend-requires c κs = search needs
-
-returns-3 : tie.Need-returns-3
-unfolding ordered
-returns-3 c =
-    go-on _ _ (call-yes (c .before .before .before .before .nodes-ascend .ensures) (c .before .before .before .if1 .left)) (go-on _ _ (call-yes (c .before .before .entries-ascend .ensures) (c .before .if2 .left)) (c .chunks-ascend .ensures))
+    go-on _ _ (call-yes (c .before .before .nodes-ascend .ensures) (c .before .if1 .left)) (c .entries-ascend .ensures)
 
 pub is-ordered-spec : {M : Type 1} → statement M
 is-ordered-spec =
-    tie.close
-    (tie.spec
-    nodes-ascend-requires
-    returns
-    entries-ascend-requires
-    returns-2
-    chunks-ascend-requires
-    returns-3)
+    tie.close (tie.spec nodes-ascend-requires returns entries-ascend-requires returns-2)

@@ -2,7 +2,7 @@ use borrow.Author.Needs.{needs}
 use Rattle.soundness.proofs.check.is_related.Statement.{statement}
 use Rattle.soundness.proofs.check.is_related.Tie as tie
 use Rattle.words.proofs.Rules.{stop, go-on, call-yes, call-no}
-use Rattle.soundness.specs.Check.{related}
+use Rattle.soundness.specs.Checked.{related}
 
 parents-good-requires : tie.Need-parents-good-requires
 parents-good-requires c κs = search needs

@@ -1,7 +1,7 @@
 use borrow.Author.Needs.{needs}
 use Rattle.soundness.proofs.entries.names_differ.Statement.{statement}
 use Rattle.soundness.proofs.entries.names_differ.Tie as tie
-use Rattle.soundness.proofs.Related.{differ-as}
+use Rattle.soundness.proofs.EntryRules.{differ-as}
 
 entry-name-requires : tie.Need-entry-name-requires
 entry-name-requires c κs = search needs

@@ -7,13 +7,13 @@ use mathlib.Core.Bool.{true}
 use Prim.Native.Nat.{ℕ, _-_, _≤_}
 use native.Mathlib.Omega.{arith}
 use lib.ListN.{length}
-use Rattle.words.specs.Rule.{upto}
+use Rattle.words.specs.Rules.{upto}
 use Rattle.words.proofs.Rules.{upto-start, upto-turn, upto-fail, upto-end, call-yes, call-no}
 use Rattle.volume.specs.Volume.{shown}
-use Rattle.soundness.specs.Entries.{nameNew, namesOnce}
+use Rattle.soundness.specs.EntryRules.{nameNew, namesOnce}
 
 abbrev Inv-loop : tie.InvT-loop
-Inv-loop volume layout used i₀ i = (i ≤ used) × (upto i (λ j. nameNew (shown volume .entries) j) ≡ true)
+Inv-loop volume layout used i₀ i = (i ≤ used) × (upto i (λ j. nameNew (shown volume .names .entries) j) ≡ true)
 
 abbrev μ-loop : tie.MeasureT-loop
 μ-loop volume layout used i₀ i = used - i
@@ -23,7 +23,7 @@ entries-used-requires c κs = search needs
 
 loop-holds : tie.Need-loop-holds Inv-loop μ-loop
 loop-holds c =
-    (search needs, upto-start (λ (j : ℕ). nameNew ((shown (now (c .before .before .args .volume))) .entries) j))
+    (search needs, upto-start (λ (j : ℕ). nameNew ((shown (now (c .before .before .args .volume))) .names .entries) j))
 
 name-new-requires : tie.Need-name-new-requires Inv-loop μ-loop
 name-new-requires c κs =
@@ -32,7 +32,7 @@ name-new-requires c κs =
 returns : tie.Need-returns Inv-loop μ-loop
 unfolding namesOnce
 returns c =
-    upto-fail (λ (j : ℕ). nameNew ((shown (now (c .before .before .before .before .before .before .args .volume))) .entries) j) (length ((shown (now (c .before .before .before .before .before .before .args .volume))) .entries)) (c .before .before .before .loop .i) (omega (arith, c .before .before .before .before .entries-used .ensures .0)) (call-no (c .before .name-new .ensures) (c .if1 .taken))
+    upto-fail (λ (j : ℕ). nameNew ((shown (now (c .before .before .before .before .before .before .args .volume))) .names .entries) j) (length ((shown (now (c .before .before .before .before .before .before .args .volume))) .names .entries)) (c .before .before .before .loop .i) (omega (arith, c .before .before .before .before .entries-used .ensures .0)) (call-no (c .before .name-new .ensures) (c .if1 .taken))
 
 add-i : tie.Need-add-i Inv-loop μ-loop
 add-i c = search needs
@@ -42,12 +42,12 @@ loop-less c = search needs
 
 loop-again : tie.Need-loop-again Inv-loop μ-loop
 loop-again c =
-    (omega arith, upto-turn (λ (j : ℕ). nameNew ((shown (now (c .before .before .before .before .before .before .args .volume))) .entries) j) (c .before .before .before .loop .i) (c .before .before .before .loop .inv .1) (call-yes (c .before .name-new .ensures) (c .if1 .left)))
+    (omega arith, upto-turn (λ (j : ℕ). nameNew ((shown (now (c .before .before .before .before .before .before .args .volume))) .names .entries) j) (c .before .before .before .loop .i) (c .before .before .before .loop .inv .1) (call-yes (c .before .name-new .ensures) (c .if1 .left)))
 
 returns-2 : tie.Need-returns-2 Inv-loop μ-loop
 unfolding namesOnce
 returns-2 c =
-    upto-end (λ (j : ℕ). nameNew ((shown (now (c .before .before .before .before .args .volume))) .entries) j) (length ((shown (now (c .before .before .before .before .args .volume))) .entries)) (c .before .loop .i) (c .before .loop .inv .1) (omega (arith, c .before .before .entries-used .ensures .0))
+    upto-end (λ (j : ℕ). nameNew ((shown (now (c .before .before .before .before .args .volume))) .names .entries) j) (length ((shown (now (c .before .before .before .before .args .volume))) .names .entries)) (c .before .loop .i) (c .before .loop .inv .1) (omega (arith, c .before .before .entries-used .ensures .0))
 
 pub names-once-spec : {M : Type 1} → statement M
 names-once-spec =

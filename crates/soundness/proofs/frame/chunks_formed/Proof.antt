@@ -2,7 +2,7 @@ use borrow.Author.Needs.{needs}
 use Rattle.soundness.proofs.frame.chunks_formed.Statement.{statement}
 use denote.Ref.{now}
 use Rattle.words.proofs.Blocks.{zero-part}
-use Rattle.soundness.proofs.Frames.{any-rows}
+use Rattle.soundness.proofs.FrameRules.{any-rows}
 use Prim.Native.Nat.{_+_, _-_, _*_}
 use Rattle.soundness.proofs.frame.chunks_formed.Tie as tie
 

@@ -2,8 +2,8 @@ use borrow.Author.Needs.{needs}
 use Rattle.soundness.proofs.frame.is_headed.Statement.{statement}
 use denote.Ref.{now}
 use Rattle.words.proofs.Rules.{stop, go-on, is-yes, is-no, le-yes2, le-no2, le-as}
-use Rattle.soundness.proofs.Frames.{placed-no, placed-yes}
-use Rattle.soundness.specs.Frame.{headed}
+use Rattle.soundness.proofs.FrameRules.{placed-no, placed-yes}
+use Rattle.soundness.specs.FrameRules.{headed}
 use borrow.Author.Tests.{le-leb, lt-leb}
 use Rattle.soundness.proofs.frame.is_headed.Tie as tie
 

@@ -3,7 +3,7 @@ use Rattle.soundness.proofs.frame.nodes_formed.Statement.{statement}
 use denote.Ref.{now}
 use Rattle.words.proofs.Rules.{stop, go-on, call-no, call-yes}
 use Rattle.words.proofs.Blocks.{zero-part}
-use Rattle.soundness.specs.Frame.{rowsFormed}
+use Rattle.soundness.specs.FrameRules.{rowsFormed}
 use Prim.Native.Nat.{_+_, _-_, _*_}
 use Rattle.soundness.proofs.frame.nodes_formed.Tie as tie
 

@@ -3,7 +3,7 @@ use Rattle.soundness.proofs.nodes.node_good.Statement.{statement}
 use Rattle.soundness.proofs.nodes.node_good.Tie as tie
 use mathlib.Core.Path.{refl, sym, _∙_}
 use Rattle.words.proofs.Rules.{stop, go-on, pick-true, pick-false, add2, is-yes2, is-no2, le-yes2, le-no2}
-use Rattle.soundness.specs.Counted.{nodeGood}
+use Rattle.soundness.specs.NodeRules.{nodeGood}
 
 root-bit-requires : tie.Need-root-bit-requires
 root-bit-requires c κs = search needs

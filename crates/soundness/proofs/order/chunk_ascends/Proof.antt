@@ -1,8 +1,7 @@
 use borrow.Author.Needs.{needs}
 use Rattle.soundness.proofs.order.chunk_ascends.Statement.{statement}
 use mathlib.Core.Path.{ap}
-use Prim.Native.Nat.{_-_}
-use Rattle.soundness.proofs.Orders.{pair-as}
+use Rattle.soundness.proofs.OrderRules.{pair-as}
 use Rattle.soundness.proofs.order.chunk_ascends.Tie as tie
 
 chunk-row-requires : tie.Need-chunk-row-requires

@@ -6,17 +6,17 @@ use mathlib.Core.Bool.{true}
 use Prim.Native.Nat.{ℕ, _+_, _-_, _≤_}
 use native.Mathlib.Omega.{arith}
 use lib.ListN.{length}
-use Rattle.words.specs.Rule.{upto}
+use Rattle.words.specs.Rules.{upto}
 use Rattle.words.proofs.Rules.{upto-start, upto-turn, upto-fail, upto-end, call-yes, call-no}
 use Rattle.volume.specs.Volume.{shown}
 use Rattle.volume.specs.Search.{pairBefore}
 use Rattle.tables.specs.Tables.{chunkAt}
-use Rattle.soundness.specs.Order.{chunksAscend}
+use Rattle.soundness.specs.OrderRules.{chunksAscend}
 use Rattle.soundness.proofs.order.chunks_ascend.Tie as tie
 
 abbrev Inv-loop : tie.InvT-loop
 Inv-loop volume layout used i₀ i =
-    (i ≤ used - 1) × (upto i (λ j. pairBefore (chunkAt (shown volume .chunks) j .node) (chunkAt (shown volume .chunks) j .index) (chunkAt (shown volume .chunks) (j + 1) .node) (chunkAt (shown volume .chunks) (j + 1) .index)) ≡ true)
+    (i ≤ used - 1) × (upto i (λ j. pairBefore (chunkAt (shown volume .store .chunks) j .node) (chunkAt (shown volume .store .chunks) j .index) (chunkAt (shown volume .store .chunks) (j + 1) .node) (chunkAt (shown volume .store .chunks) (j + 1) .index)) ≡ true)
 
 abbrev μ-loop : tie.MeasureT-loop
 μ-loop volume layout used i₀ i = used - i
@@ -26,7 +26,7 @@ chunks-used-requires c κs = search needs
 
 loop-holds : tie.Need-loop-holds Inv-loop μ-loop
 loop-holds c =
-    (search needs, upto-start (λ (j : ℕ). pairBefore (chunkAt (shown (now (c .before .before .args .volume)) .chunks) j .node) (chunkAt (shown (now (c .before .before .args .volume)) .chunks) j .index) (chunkAt (shown (now (c .before .before .args .volume)) .chunks) (j + 1) .node) (chunkAt (shown (now (c .before .before .args .volume)) .chunks) (j + 1) .index)))
+    (search needs, upto-start (λ (j : ℕ). pairBefore (chunkAt (shown (now (c .before .before .args .volume)) .store .chunks) j .node) (chunkAt (shown (now (c .before .before .args .volume)) .store .chunks) j .index) (chunkAt (shown (now (c .before .before .args .volume)) .store .chunks) (j + 1) .node) (chunkAt (shown (now (c .before .before .args .volume)) .store .chunks) (j + 1) .index)))
 
 add-loop : tie.Need-add-loop Inv-loop μ-loop
 add-loop c = search needs
@@ -37,7 +37,7 @@ chunk-ascends-requires c κs = (c .before .before .before .before .pre, omega (a
 returns : tie.Need-returns Inv-loop μ-loop
 unfolding chunksAscend
 returns c =
-    upto-fail (λ (j : ℕ). pairBefore (chunkAt (shown (now (c .before .before .before .before .before .before .args .volume)) .chunks) j .node) (chunkAt (shown (now (c .before .before .before .before .before .before .args .volume)) .chunks) j .index) (chunkAt (shown (now (c .before .before .before .before .before .before .args .volume)) .chunks) (j + 1) .node) (chunkAt (shown (now (c .before .before .before .before .before .before .args .volume)) .chunks) (j + 1) .index)) (length (shown (now (c .before .before .before .before .before .before .args .volume)) .chunks) - 1) (c .before .before .before .loop .i) (omega (arith, c .before .before .before .before .chunks-used .ensures .0)) (call-no (c .before .chunk-ascends .ensures) (c .if1 .taken))
+    upto-fail (λ (j : ℕ). pairBefore (chunkAt (shown (now (c .before .before .before .before .before .before .args .volume)) .store .chunks) j .node) (chunkAt (shown (now (c .before .before .before .before .before .before .args .volume)) .store .chunks) j .index) (chunkAt (shown (now (c .before .before .before .before .before .before .args .volume)) .store .chunks) (j + 1) .node) (chunkAt (shown (now (c .before .before .before .before .before .before .args .volume)) .store .chunks) (j + 1) .index)) (length (shown (now (c .before .before .before .before .before .before .args .volume)) .store .chunks) - 1) (c .before .before .before .loop .i) (omega (arith, c .before .before .before .before .chunks-used .ensures .0)) (call-no (c .before .chunk-ascends .ensures) (c .if1 .taken))
 
 add-i : tie.Need-add-i Inv-loop μ-loop
 add-i c = search needs
@@ -47,12 +47,12 @@ loop-less c = search needs
 
 loop-again : tie.Need-loop-again Inv-loop μ-loop
 loop-again c =
-    (omega arith, upto-turn (λ (j : ℕ). pairBefore (chunkAt (shown (now (c .before .before .before .before .before .before .args .volume)) .chunks) j .node) (chunkAt (shown (now (c .before .before .before .before .before .before .args .volume)) .chunks) j .index) (chunkAt (shown (now (c .before .before .before .before .before .before .args .volume)) .chunks) (j + 1) .node) (chunkAt (shown (now (c .before .before .before .before .before .before .args .volume)) .chunks) (j + 1) .index)) (c .before .before .before .loop .i) (c .before .before .before .loop .inv .1) (call-yes (c .before .chunk-ascends .ensures) (c .if1 .left)))
+    (omega arith, upto-turn (λ (j : ℕ). pairBefore (chunkAt (shown (now (c .before .before .before .before .before .before .args .volume)) .store .chunks) j .node) (chunkAt (shown (now (c .before .before .before .before .before .before .args .volume)) .store .chunks) j .index) (chunkAt (shown (now (c .before .before .before .before .before .before .args .volume)) .store .chunks) (j + 1) .node) (chunkAt (shown (now (c .before .before .before .before .before .before .args .volume)) .store .chunks) (j + 1) .index)) (c .before .before .before .loop .i) (c .before .before .before .loop .inv .1) (call-yes (c .before .chunk-ascends .ensures) (c .if1 .left)))
 
 returns-2 : tie.Need-returns-2 Inv-loop μ-loop
 unfolding chunksAscend
 returns-2 c =
-    upto-end (λ (j : ℕ). pairBefore (chunkAt (shown (now (c .before .before .before .before .args .volume)) .chunks) j .node) (chunkAt (shown (now (c .before .before .before .before .args .volume)) .chunks) j .index) (chunkAt (shown (now (c .before .before .before .before .args .volume)) .chunks) (j + 1) .node) (chunkAt (shown (now (c .before .before .before .before .args .volume)) .chunks) (j + 1) .index)) (length (shown (now (c .before .before .before .before .args .volume)) .chunks) - 1) (c .before .loop .i) (c .before .loop .inv .1) (omega (arith, c .before .before .chunks-used .ensures .0))
+    upto-end (λ (j : ℕ). pairBefore (chunkAt (shown (now (c .before .before .before .before .args .volume)) .store .chunks) j .node) (chunkAt (shown (now (c .before .before .before .before .args .volume)) .store .chunks) j .index) (chunkAt (shown (now (c .before .before .before .before .args .volume)) .store .chunks) (j + 1) .node) (chunkAt (shown (now (c .before .before .before .before .args .volume)) .store .chunks) (j + 1) .index)) (length (shown (now (c .before .before .before .before .args .volume)) .store .chunks) - 1) (c .before .loop .i) (c .before .loop .inv .1) (omega (arith, c .before .before .chunks-used .ensures .0))
 
 pub chunks-ascend-spec : {M : Type 1} → statement M
 chunks-ascend-spec =

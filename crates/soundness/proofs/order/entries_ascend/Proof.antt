@@ -6,17 +6,17 @@ use mathlib.Core.Bool.{true}
 use Prim.Native.Nat.{ℕ, _+_, _-_, _≤_}
 use native.Mathlib.Omega.{arith}
 use lib.ListN.{length}
-use Rattle.words.specs.Rule.{upto}
+use Rattle.words.specs.Rules.{upto}
 use Rattle.words.proofs.Rules.{upto-start, upto-turn, upto-fail, upto-end, call-yes, call-no}
 use Rattle.volume.specs.Volume.{shown}
 use Rattle.volume.specs.Search.{pairBefore}
 use Rattle.tables.specs.Tables.{entryAt}
-use Rattle.soundness.specs.Order.{entriesAscend}
+use Rattle.soundness.specs.OrderRules.{entriesAscend}
 use Rattle.soundness.proofs.order.entries_ascend.Tie as tie
 
 abbrev Inv-loop : tie.InvT-loop
 Inv-loop volume layout used i₀ i =
-    (i ≤ used - 1) × (upto i (λ j. pairBefore (entryAt (shown volume .entries) j .parent) (entryAt (shown volume .entries) j .index) (entryAt (shown volume .entries) (j + 1) .parent) (entryAt (shown volume .entries) (j + 1) .index)) ≡ true)
+    (i ≤ used - 1) × (upto i (λ j. pairBefore (entryAt (shown volume .names .entries) j .parent) (entryAt (shown volume .names .entries) j .index) (entryAt (shown volume .names .entries) (j + 1) .parent) (entryAt (shown volume .names .entries) (j + 1) .index)) ≡ true)
 
 abbrev μ-loop : tie.MeasureT-loop
 μ-loop volume layout used i₀ i = used - i
@@ -26,7 +26,7 @@ entries-used-requires c κs = search needs
 
 loop-holds : tie.Need-loop-holds Inv-loop μ-loop
 loop-holds c =
-    (search needs, upto-start (λ (j : ℕ). pairBefore (entryAt (shown (now (c .before .before .args .volume)) .entries) j .parent) (entryAt (shown (now (c .before .before .args .volume)) .entries) j .index) (entryAt (shown (now (c .before .before .args .volume)) .entries) (j + 1) .parent) (entryAt (shown (now (c .before .before .args .volume)) .entries) (j + 1) .index)))
+    (search needs, upto-start (λ (j : ℕ). pairBefore (entryAt (shown (now (c .before .before .args .volume)) .names .entries) j .parent) (entryAt (shown (now (c .before .before .args .volume)) .names .entries) j .index) (entryAt (shown (now (c .before .before .args .volume)) .names .entries) (j + 1) .parent) (entryAt (shown (now (c .before .before .args .volume)) .names .entries) (j + 1) .index)))
 
 add-loop : tie.Need-add-loop Inv-loop μ-loop
 add-loop c = search needs
@@ -38,7 +38,7 @@ entry-ascends-requires c κs =
 returns : tie.Need-returns Inv-loop μ-loop
 unfolding entriesAscend
 returns c =
-    upto-fail (λ (j : ℕ). pairBefore (entryAt (shown (now (c .before .before .before .before .before .before .args .volume)) .entries) j .parent) (entryAt (shown (now (c .before .before .before .before .before .before .args .volume)) .entries) j .index) (entryAt (shown (now (c .before .before .before .before .before .before .args .volume)) .entries) (j + 1) .parent) (entryAt (shown (now (c .before .before .before .before .before .before .args .volume)) .entries) (j + 1) .index)) (length (shown (now (c .before .before .before .before .before .before .args .volume)) .entries) - 1) (c .before .before .before .loop .i) (omega (arith, c .before .before .before .before .entries-used .ensures .0)) (call-no (c .before .entry-ascends .ensures) (c .if1 .taken))
+    upto-fail (λ (j : ℕ). pairBefore (entryAt (shown (now (c .before .before .before .before .before .before .args .volume)) .names .entries) j .parent) (entryAt (shown (now (c .before .before .before .before .before .before .args .volume)) .names .entries) j .index) (entryAt (shown (now (c .before .before .before .before .before .before .args .volume)) .names .entries) (j + 1) .parent) (entryAt (shown (now (c .before .before .before .before .before .before .args .volume)) .names .entries) (j + 1) .index)) (length (shown (now (c .before .before .before .before .before .before .args .volume)) .names .entries) - 1) (c .before .before .before .loop .i) (omega (arith, c .before .before .before .before .entries-used .ensures .0)) (call-no (c .before .entry-ascends .ensures) (c .if1 .taken))
 
 add-i : tie.Need-add-i Inv-loop μ-loop
 add-i c = search needs
@@ -48,12 +48,12 @@ loop-less c = search needs
 
 loop-again : tie.Need-loop-again Inv-loop μ-loop
 loop-again c =
-    (omega arith, upto-turn (λ (j : ℕ). pairBefore (entryAt (shown (now (c .before .before .before .before .before .before .args .volume)) .entries) j .parent) (entryAt (shown (now (c .before .before .before .before .before .before .args .volume)) .entries) j .index) (entryAt (shown (now (c .before .before .before .before .before .before .args .volume)) .entries) (j + 1) .parent) (entryAt (shown (now (c .before .before .before .before .before .before .args .volume)) .entries) (j + 1) .index)) (c .before .before .before .loop .i) (c .before .before .before .loop .inv .1) (call-yes (c .before .entry-ascends .ensures) (c .if1 .left)))
+    (omega arith, upto-turn (λ (j : ℕ). pairBefore (entryAt (shown (now (c .before .before .before .before .before .before .args .volume)) .names .entries) j .parent) (entryAt (shown (now (c .before .before .before .before .before .before .args .volume)) .names .entries) j .index) (entryAt (shown (now (c .before .before .before .before .before .before .args .volume)) .names .entries) (j + 1) .parent) (entryAt (shown (now (c .before .before .before .before .before .before .args .volume)) .names .entries) (j + 1) .index)) (c .before .before .before .loop .i) (c .before .before .before .loop .inv .1) (call-yes (c .before .entry-ascends .ensures) (c .if1 .left)))
 
 returns-2 : tie.Need-returns-2 Inv-loop μ-loop
 unfolding entriesAscend
 returns-2 c =
-    upto-end (λ (j : ℕ). pairBefore (entryAt (shown (now (c .before .before .before .before .args .volume)) .entries) j .parent) (entryAt (shown (now (c .before .before .before .before .args .volume)) .entries) j .index) (entryAt (shown (now (c .before .before .before .before .args .volume)) .entries) (j + 1) .parent) (entryAt (shown (now (c .before .before .before .before .args .volume)) .entries) (j + 1) .index)) (length (shown (now (c .before .before .before .before .args .volume)) .entries) - 1) (c .before .loop .i) (c .before .loop .inv .1) (omega (arith, c .before .before .entries-used .ensures .0))
+    upto-end (λ (j : ℕ). pairBefore (entryAt (shown (now (c .before .before .before .before .args .volume)) .names .entries) j .parent) (entryAt (shown (now (c .before .before .before .before .args .volume)) .names .entries) j .index) (entryAt (shown (now (c .before .before .before .before .args .volume)) .names .entries) (j + 1) .parent) (entryAt (shown (now (c .before .before .before .before .args .volume)) .names .entries) (j + 1) .index)) (length (shown (now (c .before .before .before .before .args .volume)) .names .entries) - 1) (c .before .loop .i) (c .before .loop .inv .1) (omega (arith, c .before .before .entries-used .ensures .0))
 
 pub entries-ascend-spec : {M : Type 1} → statement M
 entries-ascend-spec =

@@ -7,15 +7,15 @@ use Prim.Native.Nat.{ℕ, _-_, _≤_}
 use native.Mathlib.Omega.{arith}
 use lib.ListN.{length}
 use lib.Dec.{leb}
-use Rattle.words.specs.Rule.{upto}
+use Rattle.words.specs.Rules.{upto}
 use Rattle.words.proofs.Rules.{upto-start, upto-turn, upto-fail, upto-end, call-yes, call-no}
 use Rattle.volume.specs.Volume.{shown}
 use Rattle.tables.specs.Tables.{entryAt}
-use Rattle.soundness.specs.Order.{indexed}
+use Rattle.soundness.specs.OrderRules.{indexed}
 use Rattle.soundness.proofs.order.entries_indexed.Tie as tie
 
 abbrev Inv-loop : tie.InvT-loop
-Inv-loop volume layout used i₀ i = (i ≤ used) × (upto i (λ j. leb 1 (entryAt (shown volume .entries) j .index)) ≡ true)
+Inv-loop volume layout used i₀ i = (i ≤ used) × (upto i (λ j. leb 1 (entryAt (shown volume .names .entries) j .index)) ≡ true)
 
 abbrev μ-loop : tie.MeasureT-loop
 μ-loop volume layout used i₀ i = used - i
@@ -25,7 +25,7 @@ entries-used-requires c κs = search needs
 
 loop-holds : tie.Need-loop-holds Inv-loop μ-loop
 loop-holds c =
-    (search needs, upto-start (λ (j : ℕ). leb 1 (entryAt (shown (now (c .before .before .args .volume)) .entries) j .index)))
+    (search needs, upto-start (λ (j : ℕ). leb 1 (entryAt (shown (now (c .before .before .args .volume)) .names .entries) j .index)))
 
 entry-indexed-requires : tie.Need-entry-indexed-requires Inv-loop μ-loop
 entry-indexed-requires c κs =
@@ -34,7 +34,7 @@ entry-indexed-requires c κs =
 returns : tie.Need-returns Inv-loop μ-loop
 unfolding indexed
 returns c =
-    upto-fail (λ (j : ℕ). leb 1 (entryAt (shown (now (c .before .before .before .before .before .before .args .volume)) .entries) j .index)) (length (shown (now (c .before .before .before .before .before .before .args .volume)) .entries)) (c .before .before .before .loop .i) (omega (arith, c .before .before .before .before .entries-used .ensures .0)) (call-no (c .before .entry-indexed .ensures) (c .if1 .taken))
+    upto-fail (λ (j : ℕ). leb 1 (entryAt (shown (now (c .before .before .before .before .before .before .args .volume)) .names .entries) j .index)) (length (shown (now (c .before .before .before .before .before .before .args .volume)) .names .entries)) (c .before .before .before .loop .i) (omega (arith, c .before .before .before .before .entries-used .ensures .0)) (call-no (c .before .entry-indexed .ensures) (c .if1 .taken))
 
 add-i : tie.Need-add-i Inv-loop μ-loop
 add-i c = search needs
@@ -44,12 +44,12 @@ loop-less c = search needs
 
 loop-again : tie.Need-loop-again Inv-loop μ-loop
 loop-again c =
-    (omega arith, upto-turn (λ (j : ℕ). leb 1 (entryAt (shown (now (c .before .before .before .before .before .before .args .volume)) .entries) j .index)) (c .before .before .before .loop .i) (c .before .before .before .loop .inv .1) (call-yes (c .before .entry-indexed .ensures) (c .if1 .left)))
+    (omega arith, upto-turn (λ (j : ℕ). leb 1 (entryAt (shown (now (c .before .before .before .before .before .before .args .volume)) .names .entries) j .index)) (c .before .before .before .loop .i) (c .before .before .before .loop .inv .1) (call-yes (c .before .entry-indexed .ensures) (c .if1 .left)))
 
 returns-2 : tie.Need-returns-2 Inv-loop μ-loop
 unfolding indexed
 returns-2 c =
-    upto-end (λ (j : ℕ). leb 1 (entryAt (shown (now (c .before .before .before .before .args .volume)) .entries) j .index)) (length (shown (now (c .before .before .before .before .args .volume)) .entries)) (c .before .loop .i) (c .before .loop .inv .1) (omega (arith, c .before .before .entries-used .ensures .0))
+    upto-end (λ (j : ℕ). leb 1 (entryAt (shown (now (c .before .before .before .before .args .volume)) .names .entries) j .index)) (length (shown (now (c .before .before .before .before .args .volume)) .names .entries)) (c .before .loop .i) (c .before .loop .inv .1) (omega (arith, c .before .before .entries-used .ensures .0))
 
 pub entries-indexed-spec : {M : Type 1} → statement M
 entries-indexed-spec =

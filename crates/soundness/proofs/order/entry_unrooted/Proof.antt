@@ -1,19 +1,14 @@
 use borrow.Author.Needs.{needs}
 use Rattle.soundness.proofs.order.entry_unrooted.Statement.{statement}
 use Rattle.soundness.proofs.order.entry_unrooted.Tie as tie
-use Rattle.soundness.proofs.order.entry_unrooted.Reads as reads
-use Rattle.soundness.proofs.order.entry_unrooted.Lts as lts
-use Rattle.tables.proofs.entry_node.Reads as entry-node-reads
 use mathlib.Core.Path.{ap}
 use mathlib.Core.Bool.{not}
 use Prim.Native.Nat.{ℕ}
 use lib.Dec.{eqb}
 
--- src/order.rt:165:5
 entry-node-requires : tie.Need-entry-node-requires
 entry-node-requires c κs = search needs
 
--- src/order.rt:161:1
 returns : tie.Need-returns
 returns c = ap (λ (k : ℕ). not (eqb k 0)) (c .entry-node .ensures)
 

@@ -7,16 +7,16 @@ use Prim.Native.Nat.{ℕ, _-_, _≤_}
 use native.Mathlib.Omega.{arith}
 use lib.ListN.{length}
 use lib.Dec.{ltb}
-use Rattle.words.specs.Rule.{upto}
+use Rattle.words.specs.Rules.{upto}
 use Rattle.words.proofs.Rules.{upto-start, upto-turn, upto-fail, upto-end, call-yes, call-no}
 use Rattle.volume.specs.Volume.{shown}
 use Rattle.tables.specs.Tables.{nodeAt}
-use Rattle.soundness.specs.Order.{nodesBelow}
-use Rattle.soundness.proofs.Orders.{below-as}
+use Rattle.soundness.specs.OrderRules.{nodesBelow}
+use Rattle.soundness.proofs.OrderRules.{below-as}
 use Rattle.soundness.proofs.order.nodes_below_next.Tie as tie
 
 abbrev Inv-loop : tie.InvT-loop
-Inv-loop volume layout used next i₀ i = (i ≤ used) × (upto i (λ j. ltb (nodeAt (shown volume .nodes) j .node) next) ≡ true)
+Inv-loop volume layout used next i₀ i = (i ≤ used) × (upto i (λ j. ltb (nodeAt (shown volume .names .nodes) j .node) next) ≡ true)
 
 abbrev μ-loop : tie.MeasureT-loop
 μ-loop volume layout used next i₀ i = used - i
@@ -29,7 +29,7 @@ next-node-requires c κs = search needs
 
 loop-holds : tie.Need-loop-holds Inv-loop μ-loop
 loop-holds c =
-    (search needs, upto-start (λ (j : ℕ). ltb (nodeAt (shown (now (c .before .before .before .args .volume)) .nodes) j .node) (c .next-node .result)))
+    (search needs, upto-start (λ (j : ℕ). ltb (nodeAt (shown (now (c .before .before .before .args .volume)) .names .nodes) j .node) (c .next-node .result)))
 
 node-below-requires : tie.Need-node-below-requires Inv-loop μ-loop
 node-below-requires c κs =
@@ -38,7 +38,7 @@ node-below-requires c κs =
 returns : tie.Need-returns Inv-loop μ-loop
 unfolding nodesBelow
 returns c =
-    below-as (shown (now (c .before .before .before .before .before .before .before .args .volume)) .nodes) (c .before .before .before .before .next-node .ensures) (upto-fail (λ (j : ℕ). ltb (nodeAt (shown (now (c .before .before .before .before .before .before .before .args .volume)) .nodes) j .node) (c .before .before .before .before .next-node .result)) (length (shown (now (c .before .before .before .before .before .before .before .args .volume)) .nodes)) (c .before .before .before .loop .i) (omega (arith, c .before .before .before .before .before .nodes-used .ensures .0)) (call-no (c .before .node-below .ensures) (c .if1 .taken)))
+    below-as (shown (now (c .before .before .before .before .before .before .before .args .volume)) .names .nodes) (c .before .before .before .before .next-node .ensures) (upto-fail (λ (j : ℕ). ltb (nodeAt (shown (now (c .before .before .before .before .before .before .before .args .volume)) .names .nodes) j .node) (c .before .before .before .before .next-node .result)) (length (shown (now (c .before .before .before .before .before .before .before .args .volume)) .names .nodes)) (c .before .before .before .loop .i) (omega (arith, c .before .before .before .before .before .nodes-used .ensures .0)) (call-no (c .before .node-below .ensures) (c .if1 .taken)))
 
 add-i : tie.Need-add-i Inv-loop μ-loop
 add-i c = search needs
@@ -48,12 +48,12 @@ loop-less c = search needs
 
 loop-again : tie.Need-loop-again Inv-loop μ-loop
 loop-again c =
-    (omega arith, upto-turn (λ (j : ℕ). ltb (nodeAt (shown (now (c .before .before .before .before .before .before .before .args .volume)) .nodes) j .node) (c .before .before .before .before .next-node .result)) (c .before .before .before .loop .i) (c .before .before .before .loop .inv .1) (call-yes (c .before .node-below .ensures) (c .if1 .left)))
+    (omega arith, upto-turn (λ (j : ℕ). ltb (nodeAt (shown (now (c .before .before .before .before .before .before .before .args .volume)) .names .nodes) j .node) (c .before .before .before .before .next-node .result)) (c .before .before .before .loop .i) (c .before .before .before .loop .inv .1) (call-yes (c .before .node-below .ensures) (c .if1 .left)))
 
 returns-2 : tie.Need-returns-2 Inv-loop μ-loop
 unfolding nodesBelow
 returns-2 c =
-    below-as (shown (now (c .before .before .before .before .before .args .volume)) .nodes) (c .before .before .next-node .ensures) (upto-end (λ (j : ℕ). ltb (nodeAt (shown (now (c .before .before .before .before .before .args .volume)) .nodes) j .node) (c .before .before .next-node .result)) (length (shown (now (c .before .before .before .before .before .args .volume)) .nodes)) (c .before .loop .i) (c .before .loop .inv .1) (omega (arith, c .before .before .before .nodes-used .ensures .0)))
+    below-as (shown (now (c .before .before .before .before .before .args .volume)) .names .nodes) (c .before .before .next-node .ensures) (upto-end (λ (j : ℕ). ltb (nodeAt (shown (now (c .before .before .before .before .before .args .volume)) .names .nodes) j .node) (c .before .before .next-node .result)) (length (shown (now (c .before .before .before .before .before .args .volume)) .names .nodes)) (c .before .loop .i) (c .before .loop .inv .1) (omega (arith, c .before .before .before .nodes-used .ensures .0)))
 
 pub nodes-below-next-spec : {M : Type 1} → statement M
 nodes-below-next-spec =

@@ -1,11 +1,10 @@
 use borrow.Author.Needs.{needs}
 use Rattle.soundness.proofs.pointers.next_fits.Statement.{statement}
 use mathlib.Core.Path.{refl}
-use Prim.Native.Nat.{_-_}
 use borrow.Author.Tests.{eq-eqb, ne-eqb, le-leb, lt-leb}
 use Rattle.words.proofs.Rules.{stop, go-on}
-use Rattle.soundness.specs.Pointers.{nextFits}
-use Rattle.soundness.proofs.Accounted.{mul-fits}
+use Rattle.soundness.specs.PointerRules.{nextFits}
+use Rattle.soundness.proofs.PointerRules.{mul-fits}
 use Rattle.soundness.proofs.pointers.next_fits.Tie as tie
 
 rem-if1 : tie.Need-rem-if1
@@ -21,7 +20,7 @@ returns-2 c = go-on _ _ (eq-eqb _ _ (c .before .if1 .left)) (stop _ _ (lt-leb _ 
 
 mul-result : tie.Need-mul-result
 mul-result c =
-    record { fits = mul-fits (c .before .before .args .chunks) (c .before .before .args .size) (c .before .before .pre .2) (c .before .before .pre .1) }
+    record { fits = mul-fits (c .before .before .args .chunks) (c .before .before .args .span) (c .before .before .pre .2) (c .before .before .pre .1) }
 
 returns-3 : tie.Need-returns-3
 unfolding nextFits

@@ -1,7 +1,6 @@
 use borrow.Author.Needs.{needs}
 use Rattle.soundness.proofs.pointers.row_bit.Statement.{statement}
 use mathlib.Core.Path.{ap}
-use Prim.Native.Nat.{_-_}
 use native.Mathlib.Omega.{arith}
 use Rattle.words.proofs.Counting.{bit-one, bit-none}
 use Rattle.soundness.proofs.pointers.row_bit.Tie as tie

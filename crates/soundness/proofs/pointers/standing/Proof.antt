@@ -1,15 +1,10 @@
 use Rattle.soundness.proofs.pointers.standing.Statement.{statement}
-use denote.Ref.{now}
-use mathlib.Core.Path.{ap, _∙_}
-use Prim.Native.Nat.{_-_}
-use native.Mathlib.Omega.{arith}
-use lib.Dec.{eqb}
-use Rattle.words.specs.Rule.{tally}
-use Rattle.allocator.specs.Opening.{freeWord}
-use Rattle.tables.proofs.Lent.{words-long, words-lent}
-use Rattle.soundness.proofs.FreeWords.{count-room, free-stands}
-use Rattle.tables.proofs.Rooms.{rooms}
 use Rattle.soundness.proofs.pointers.standing.Tie as tie
+use denote.Ref.{now}
+use native.Mathlib.Omega.{arith}
+use Rattle.tables.proofs.LentAllocator.{lent-long}
+use Rattle.soundness.proofs.PointerRules.{count-room, free-stands}
+use Rattle.tables.proofs.ReadyVolume.{rooms}
 
 rows-standing-requires : tie.Need-rows-standing-requires
 rows-standing-requires c κs = c .before .pre .0
@@ -28,15 +23,15 @@ part-words-standing-end c =
 
 words-standing-requires : tie.Need-words-standing-requires
 words-standing-requires c κs =
-    rw (words-lent (now (c .before .before .before .args .volume)) (c .before .before .before .args .layout) (c .before .before .before .pre .0)) (omega (arith, count-room (now (c .before .before .before .args .volume)) (c .before .before .before .args .layout) (c .before .before .before .pre .0), c .before .before .before .pre .1))
+    omega (arith, count-room (now (c .before .before .before .args .volume)) (c .before .before .before .args .layout) (c .before .before .before .pre .0), c .before .before .before .pre .1)
 
 add-result : tie.Need-add-result
 add-result c =
-    omega (arith, c .before .before .rows-standing .ensures .1, c .words-standing .ensures .1, c .before .before .before .before .pre .1, count-room (now (c .before .before .before .before .args .volume)) (c .before .before .before .before .args .layout) (c .before .before .before .before .pre .0), words-long (now (c .before .before .before .before .args .volume)) (c .before .before .before .before .args .layout) (c .before .before .before .before .pre .0), rooms (now (c .before .before .before .before .args .volume)) (c .before .before .before .before .args .layout) (c .before .before .before .before .pre .0))
+    omega (arith, c .before .before .rows-standing .ensures .1, c .words-standing .ensures .1, c .before .before .before .before .pre .1, count-room (now (c .before .before .before .before .args .volume)) (c .before .before .before .before .args .layout) (c .before .before .before .before .pre .0), lent-long (now (c .before .before .before .before .args .volume)) (c .before .before .before .before .args .layout) (c .before .before .before .before .pre .0), rooms (now (c .before .before .before .before .args .volume)) (c .before .before .before .before .args .layout) (c .before .before .before .before .pre .0))
 
 returns : tie.Need-returns
 returns c =
-    omega (arith, c .before .before .rows-standing .ensures .0, free-stands (now (c .before .before .before .before .args .volume)) (c .before .before .before .before .args .layout) (c .before .before .before .before .pre .0) (c .before .before .before .before .args .pointer) (c .before .before .before .before .pre .1) (c .words-standing .ensures .0 ∙ ap (λ w. tally (c .before .before .before .before .args .count) (λ i. eqb (freeWord w i) (c .before .before .before .before .args .pointer))) (words-lent (now (c .before .before .before .before .args .volume)) (c .before .before .before .before .args .layout) (c .before .before .before .before .pre .0))))
+    omega (arith, c .before .before .rows-standing .ensures .0, free-stands (now (c .before .before .before .before .args .volume)) (c .before .before .before .before .args .layout) (c .before .before .before .before .pre .0) (c .before .before .before .before .args .pointer) (c .before .before .before .before .pre .1) (c .words-standing .ensures .0))
 
 pub standing-spec : {M : Type 1} → statement M
 standing-spec =

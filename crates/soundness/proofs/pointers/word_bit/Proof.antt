@@ -1,6 +1,5 @@
 use borrow.Author.Needs.{needs}
 use Rattle.soundness.proofs.pointers.word_bit.Statement.{statement}
-use Prim.Native.Nat.{_-_}
 use native.Mathlib.Omega.{arith}
 use Rattle.allocator.specs.Opening.{freeWord}
 use Rattle.words.proofs.Counting.{bit-one, bit-none}

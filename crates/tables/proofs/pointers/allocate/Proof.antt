@@ -4,8 +4,8 @@ use Rattle.tables.proofs.pointers.allocate.Tie as tie
 use denote.Ref.{now}
 use mathlib.Core.Path.{sym, _∙_}
 use native.Mathlib.Omega.{arith}
-use Rattle.tables.proofs.Rooms.{rooms}
-use Rattle.tables.proofs.Lent.{lent-formed, lent-size, lent-count, lent-next, allocated}
+use Rattle.tables.proofs.ReadyVolume.{rooms}
+use Rattle.tables.proofs.LentAllocator.{lent-formed, lent-size, lent-count, lent-next, allocated}
 
 sub-allocate : tie.Need-sub-allocate
 sub-allocate c = omega (arith, rooms (now (c .before .args .volume)) (c .before .args .layout) (c .before .pre .0))

@@ -4,8 +4,8 @@ use Rattle.tables.proofs.pointers.free.Tie as tie
 use denote.Ref.{now}
 use native.Mathlib.Omega.{arith}
 use Rattle.volume.specs.Volume.{shown}
-use Rattle.tables.proofs.Rooms.{rooms}
-use Rattle.tables.proofs.Lent.{lent-formed, lent-count, lent-long, freed}
+use Rattle.tables.proofs.ReadyVolume.{rooms}
+use Rattle.tables.proofs.LentAllocator.{lent-formed, lent-count, lent-long, freed}
 
 sub-free : tie.Need-sub-free
 sub-free c = omega (arith, rooms (now (c .before .args .volume)) (c .before .args .layout) (c .before .pre .0))

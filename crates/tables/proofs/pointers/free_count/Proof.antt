@@ -3,8 +3,8 @@ use Rattle.tables.proofs.pointers.free_count.Tie as tie
 use denote.Ref.{now}
 use mathlib.Core.Path.{_∙_}
 use native.Mathlib.Omega.{arith}
-use Rattle.tables.proofs.Rooms.{rooms}
-use Rattle.tables.proofs.Lent.{lent-long, lent-count}
+use Rattle.tables.proofs.ReadyVolume.{rooms}
+use Rattle.tables.proofs.LentAllocator.{lent-long, lent-count}
 
 sub-get-len : tie.Need-sub-get-len
 sub-get-len c = omega (arith, rooms (now (c .before .args .volume)) (c .before .args .layout) (c .before .pre))
@@ -21,7 +21,7 @@ get-len-requires c κs =
 
 returns : tie.Need-returns
 returns c =
-    (c .get-len .ensures ∙ lent-count (now (c .before .before .before .args .volume)) (c .before .before .before .args .layout) (c .before .before .before .pre), omega (arith, c .get-len .ensures, lent-count (now (c .before .before .before .args .volume)) (c .before .before .before .args .layout) (c .before .before .before .pre), c .before .before .before .pre .formed .fits .free, c .before .before .before .pre .formed .fits .placed .chunks .1))
+    (c .get-len .ensures ∙ lent-count (now (c .before .before .before .args .volume)) (c .before .before .before .args .layout) (c .before .before .before .pre), omega (arith, c .get-len .ensures, lent-count (now (c .before .before .before .args .volume)) (c .before .before .before .args .layout) (c .before .before .before .pre), c .before .before .before .pre .formed .fits .store .free, c .before .before .before .pre .formed .fits .store .chunkRoom .1))
 
 pub free-count-spec : {M : Type 1} → statement M
 free-count-spec =

@@ -3,8 +3,8 @@ use Rattle.tables.proofs.pointers.set_chunk_size.Statement.{statement}
 use Rattle.tables.proofs.pointers.set_chunk_size.Tie as tie
 use denote.Ref.{now}
 use native.Mathlib.Omega.{arith}
-use Rattle.tables.proofs.Rooms.{rooms}
-use Rattle.tables.proofs.Lent.{lent-formed, resized}
+use Rattle.tables.proofs.ReadyVolume.{rooms}
+use Rattle.tables.proofs.LentAllocator.{lent-formed, resized}
 
 sub-set-chunk-size : tie.Need-sub-set-chunk-size
 sub-set-chunk-size c = omega (arith, rooms (now (c .before .args .volume)) (c .before .args .layout) (c .before .pre))

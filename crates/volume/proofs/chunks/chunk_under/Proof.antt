@@ -1,7 +1,7 @@
 use borrow.Author.Needs.{needs}
 use Rattle.volume.proofs.chunks.chunk_under.Statement.{statement}
 use denote.Ref.{now}
-use Rattle.volume.proofs.RowSteps.{chunk-is-under}
+use Rattle.volume.proofs.RowFields.{chunk-is-under}
 use Rattle.volume.proofs.chunks.chunk_under.Tie as tie
 
 get64-requires : tie.Need-get64-requires

@@ -1,7 +1,7 @@
 use borrow.Author.Needs.{needs}
 use Rattle.volume.proofs.chunks.read_chunk.Statement.{statement}
 use denote.Ref.{now}
-use Rattle.volume.proofs.RowSteps.{chunk-read}
+use Rattle.volume.proofs.RowFields.{chunk-read}
 use Rattle.volume.proofs.chunks.read_chunk.Tie as tie
 
 get64-requires : tie.Need-get64-requires

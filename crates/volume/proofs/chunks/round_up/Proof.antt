@@ -16,7 +16,7 @@ div-result c = search needs
 
 returns : tie.Need-returns
 unfolding roundUp
-returns c = (refl, up-le (c .args .chunk) (c .args .size) (c .pre .0))
+returns c = (refl, up-le (c .args .span) (c .args .size) (c .pre .0))
 
 pub round-up-spec : {M : Type 1} → statement M
 round-up-spec = tie.close (tie.spec sub-result add-result div-result returns)

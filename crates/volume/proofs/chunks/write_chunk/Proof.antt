@@ -1,7 +1,7 @@
 use borrow.Author.Needs.{needs}
 use Rattle.volume.proofs.chunks.write_chunk.Statement.{statement}
 use denote.Ref.{now}
-use Rattle.volume.proofs.RowSteps.{chunk-written}
+use Rattle.volume.proofs.RowFields.{chunk-written}
 use Rattle.volume.proofs.chunks.write_chunk.Tie as tie
 
 slice-aggregate-put-words : tie.Need-slice-aggregate-put-words

@@ -1,9 +1,10 @@
 use borrow.Author.Needs.{needs}
 use Rattle.volume.proofs.entries.entry_formed.Statement.{statement}
 use denote.Ref.{now}
-use Rattle.words.proofs.Rules.{stop, go-on, le-yes, le-no, le-yes2, le-no2}
+use Rattle.words.proofs.Rules.{stop, go-on, by1, le-yes, le-no, le-yes2, le-no2}
 use Rattle.words.proofs.Blocks.{zero-part}
-use Rattle.volume.proofs.RowTests.{entry-rest}
+use Rattle.words.specs.Bytes.{part}
+use Rattle.words.specs.Rules.{allZero}
 use Rattle.volume.specs.RowTests.{entryFormed}
 use mathlib.Core.Path.{refl}
 use Prim.Native.Nat.{_+_, _-_}
@@ -51,7 +52,7 @@ is-zero-requires c κs = search needs
 returns-3 : tie.Need-returns-3
 unfolding entryFormed
 returns-3 c =
-    (go-on _ _ (le-yes2 refl (c .before .before .before .before .get32 .ensures .0) (c .before .before .before .if1 .left))) ((go-on _ _ (le-yes (c .before .before .before .before .get32 .ensures .0) (c .before .before .if2 .left))) (entry-rest ((now (c .before .before .before .before .before .before .args .volume))) (c .before .before .before .before .before .before .args .at) (zero-part ((now (c .before .before .before .before .before .before .args .volume))) (c .before .before .before .before .before .before .args .at + 24 + ((c .before .before .before .before .get32 .result))) (256 - ((c .before .before .before .before .get32 .result))) (c .is-zero .ensures)) (c .before .before .before .before .get32 .ensures .0)))
+    (go-on _ _ (le-yes2 refl (c .before .before .before .before .get32 .ensures .0) (c .before .before .before .if1 .left))) ((go-on _ _ (le-yes (c .before .before .before .before .get32 .ensures .0) (c .before .before .if2 .left))) (by1 (λ n. allZero (part (now (c .before .before .before .before .before .before .args .volume)) (c .before .before .before .before .before .before .args .at + 24 + n) (256 - n))) (zero-part ((now (c .before .before .before .before .before .before .args .volume))) (c .before .before .before .before .before .before .args .at + 24 + ((c .before .before .before .before .get32 .result))) (256 - ((c .before .before .before .before .get32 .result))) (c .is-zero .ensures)) (c .before .before .before .before .get32 .ensures .0)))
 
 pub entry-formed-spec : {M : Type 1} → statement M
 entry-formed-spec =

@@ -1,7 +1,7 @@
 use borrow.Author.Needs.{needs}
 use Rattle.volume.proofs.entries.entry_name.Statement.{statement}
 use denote.Ref.{now}
-use Rattle.volume.proofs.RowSteps.{name-lent}
+use Rattle.volume.proofs.RowFields.{name-lent}
 use Rattle.volume.proofs.entries.entry_name.Tie as tie
 
 add-start : tie.Need-add-start

@@ -2,7 +2,7 @@ use borrow.Author.Needs.{needs}
 use Rattle.volume.proofs.entries.entry_node.Statement.{statement}
 use denote.Ref.{now}
 use mathlib.Core.Path.{sym, _∙_}
-use Rattle.volume.proofs.RowSteps.{entry-node}
+use Rattle.volume.proofs.RowFields.{entry-numbers}
 use Rattle.volume.proofs.entries.entry_node.Tie as tie
 
 add-get64 : tie.Need-add-get64
@@ -13,7 +13,7 @@ get64-requires c κs = search needs
 
 returns : tie.Need-returns
 returns c =
-    c .get64 .ensures ∙ sym (entry-node (now (c .before .before .args .volume)) (c .before .before .args .at))
+    c .get64 .ensures ∙ sym (entry-numbers (now (c .before .before .args .volume)) (c .before .before .args .at) .1)
 
 pub entry-node-spec : {M : Type 1} → statement M
 entry-node-spec = tie.close (tie.spec add-get64 get64-requires returns)

@@ -1,7 +1,7 @@
 use borrow.Author.Needs.{needs}
 use Rattle.volume.proofs.entries.write_entry.Statement.{statement}
 use denote.Ref.{now}
-use Rattle.volume.proofs.RowSteps.{entry-written}
+use Rattle.volume.proofs.RowFields.{entry-written}
 use Rattle.volume.proofs.entries.write_entry.Tie as tie
 
 put64-requires : tie.Need-put64-requires

@@ -1,7 +1,7 @@
 use borrow.Author.Needs.{needs}
 use Rattle.volume.proofs.fresh.lay.Statement.{statement}
 use denote.Ref.{now}
-use Rattle.volume.proofs.NewLaid.{fresh-written}
+use Rattle.volume.proofs.FreshLaid.{fresh-written}
 use Rattle.volume.proofs.fresh.lay.Tie as tie
 
 clear-requires : tie.Need-clear-requires

@@ -4,8 +4,8 @@ use denote.Ref.{now}
 use mathlib.Core.Path.{sym, ap, _∙_}
 use lib.ListN.{length}
 use Rattle.words.proofs.Rules.{call-yes, call-no, says-true}
-use Rattle.volume.proofs.Places.{not-placed, is-placed, says-placed}
-use Rattle.volume.proofs.NewLaid.{new-misplaced, new-missized, new-done}
+use Rattle.volume.proofs.GeometryRules.{not-placed, is-placed, says-placed}
+use Rattle.volume.proofs.FreshLaid.{new-misplaced, new-missized, new-done}
 use Rattle.volume.proofs.fresh.new_volume.Tie as tie
 
 place-tables-requires : tie.Need-place-tables-requires

@@ -9,7 +9,7 @@ use Rattle.types.specs.Sizes.{leastArea}
 use Rattle.volume.specs.declared.Place.the-variants.{At}
 use Rattle.volume.specs.Volume.{atBytes}
 use Rattle.volume.specs.Geometry.{placed}
-use Rattle.volume.proofs.Places.{roomy-fits, nowhere, at-layout}
+use Rattle.volume.proofs.GeometryRules.{roomy-fits, nowhere, at-layout}
 use Rattle.volume.proofs.geometry.place_tables.Tie as tie
 
 is-roomy-requires : tie.Need-is-roomy-requires
@@ -18,7 +18,7 @@ is-roomy-requires c κs = search needs
 returns : tie.Need-returns
 unfolding placed
 returns c =
-    nowhere (c .before .before .args .nodes) (c .before .before .args .entries) (c .before .before .args .chunks) (c .before .before .args .size) (sym (stop _ _ (call-no (c .before .is-roomy .ensures) (c .if1 .taken))))
+    nowhere (c .before .before .args .nodes) (c .before .before .args .entries) (c .before .before .args .chunks) (c .before .before .args .extent) (sym (stop _ _ (call-no (c .before .is-roomy .ensures) (c .if1 .taken))))
 
 is-roomy-requires-2 : tie.Need-is-roomy-requires-2
 is-roomy-requires-2 c κs = search needs
@@ -26,7 +26,7 @@ is-roomy-requires-2 c κs = search needs
 returns-2 : tie.Need-returns-2
 unfolding placed
 returns-2 c =
-    nowhere (c .before .before .before .before .args .nodes) (c .before .before .before .before .args .entries) (c .before .before .before .before .args .chunks) (c .before .before .before .before .args .size) (sym (go-on _ _ (call-yes (c .before .before .before .is-roomy .ensures) (c .before .before .if1 .left)) (stop _ _ (call-no (c .before .is-roomy2 .ensures) (c .if2 .taken)))))
+    nowhere (c .before .before .before .before .args .nodes) (c .before .before .before .before .args .entries) (c .before .before .before .before .args .chunks) (c .before .before .before .before .args .extent) (sym (go-on _ _ (call-yes (c .before .before .before .is-roomy .ensures) (c .before .before .if1 .left)) (stop _ _ (call-no (c .before .is-roomy2 .ensures) (c .if2 .taken)))))
 
 is-roomy-requires-3 : tie.Need-is-roomy-requires-3
 is-roomy-requires-3 c κs = search needs
@@ -34,7 +34,7 @@ is-roomy-requires-3 c κs = search needs
 returns-3 : tie.Need-returns-3
 unfolding placed
 returns-3 c =
-    nowhere (c .before .before .before .before .before .before .args .nodes) (c .before .before .before .before .before .before .args .entries) (c .before .before .before .before .before .before .args .chunks) (c .before .before .before .before .before .before .args .size) (sym (go-on _ _ (call-yes (c .before .before .before .before .before .is-roomy .ensures) (c .before .before .before .before .if1 .left)) (go-on _ _ (call-yes (c .before .before .before .is-roomy2 .ensures) (c .before .before .if2 .left)) (stop _ _ (call-no (c .before .is-roomy3 .ensures) (c .if3 .taken))))))
+    nowhere (c .before .before .before .before .before .before .args .nodes) (c .before .before .before .before .before .before .args .entries) (c .before .before .before .before .before .before .args .chunks) (c .before .before .before .before .before .before .args .extent) (sym (go-on _ _ (call-yes (c .before .before .before .before .before .is-roomy .ensures) (c .before .before .before .before .if1 .left)) (go-on _ _ (call-yes (c .before .before .before .is-roomy2 .ensures) (c .before .before .if2 .left)) (stop _ _ (call-no (c .before .is-roomy3 .ensures) (c .if3 .taken))))))
 
 starts-requires : tie.Need-starts-requires
 starts-requires c κs =
@@ -47,12 +47,12 @@ add-if4 c =
 returns-4 : tie.Need-returns-4
 unfolding placed
 returns-4 c =
-    nowhere (c .before .before .before .before .before .before .before .before .args .nodes) (c .before .before .before .before .before .before .before .before .args .entries) (c .before .before .before .before .before .before .before .before .args .chunks) (c .before .before .before .before .before .before .before .before .args .size) (sym (go-on _ _ (call-yes (c .before .before .before .before .before .before .before .is-roomy .ensures) (c .before .before .before .before .before .before .if1 .left)) (go-on _ _ (call-yes (c .before .before .before .before .before .is-roomy2 .ensures) (c .before .before .before .before .if2 .left)) (go-on _ _ (call-yes (c .before .before .before .is-roomy3 .ensures) (c .before .before .if3 .left)) (sym (lt-leb (atBytes (c .before .before .before .before .before .before .before .before .args .nodes) (c .before .before .before .before .before .before .before .before .args .entries) (c .before .before .before .before .before .before .before .before .args .chunks) + leastArea) (c .before .before .before .before .before .before .before .before .args .size) (omega (arith, (ap (λ y. y .bytes) (c .before .starts .ensures))))))))))
+    nowhere (c .before .before .before .before .before .before .before .before .args .nodes) (c .before .before .before .before .before .before .before .before .args .entries) (c .before .before .before .before .before .before .before .before .args .chunks) (c .before .before .before .before .before .before .before .before .args .extent) (sym (go-on _ _ (call-yes (c .before .before .before .before .before .before .before .is-roomy .ensures) (c .before .before .before .before .before .before .if1 .left)) (go-on _ _ (call-yes (c .before .before .before .before .before .is-roomy2 .ensures) (c .before .before .before .before .if2 .left)) (go-on _ _ (call-yes (c .before .before .before .is-roomy3 .ensures) (c .before .before .if3 .left)) (sym (lt-leb (atBytes (c .before .before .before .before .before .before .before .before .args .nodes) (c .before .before .before .before .before .before .before .before .args .entries) (c .before .before .before .before .before .before .before .before .args .chunks) + leastArea) (c .before .before .before .before .before .before .before .before .args .extent) (omega (arith, (ap (λ y. y .bytes) (c .before .starts .ensures))))))))))
 
 returns-5 : tie.Need-returns-5
 unfolding placed
 returns-5 c =
-    ap At (c .before .starts .ensures) ∙ at-layout (c .before .before .before .before .before .before .before .before .args .nodes) (c .before .before .before .before .before .before .before .before .args .entries) (c .before .before .before .before .before .before .before .before .args .chunks) (c .before .before .before .before .before .before .before .before .args .size) (sym (go-on _ _ (call-yes (c .before .before .before .before .before .before .before .is-roomy .ensures) (c .before .before .before .before .before .before .if1 .left)) (go-on _ _ (call-yes (c .before .before .before .before .before .is-roomy2 .ensures) (c .before .before .before .before .if2 .left)) (go-on _ _ (call-yes (c .before .before .before .is-roomy3 .ensures) (c .before .before .if3 .left)) (sym (le-leb (atBytes (c .before .before .before .before .before .before .before .before .args .nodes) (c .before .before .before .before .before .before .before .before .args .entries) (c .before .before .before .before .before .before .before .before .args .chunks) + leastArea) (c .before .before .before .before .before .before .before .before .args .size) (omega (arith, (ap (λ y. y .bytes) (c .before .starts .ensures))))))))))
+    ap At (c .before .starts .ensures) ∙ at-layout (c .before .before .before .before .before .before .before .before .args .nodes) (c .before .before .before .before .before .before .before .before .args .entries) (c .before .before .before .before .before .before .before .before .args .chunks) (c .before .before .before .before .before .before .before .before .args .extent) (sym (go-on _ _ (call-yes (c .before .before .before .before .before .before .before .is-roomy .ensures) (c .before .before .before .before .before .before .if1 .left)) (go-on _ _ (call-yes (c .before .before .before .before .before .is-roomy2 .ensures) (c .before .before .before .before .if2 .left)) (go-on _ _ (call-yes (c .before .before .before .is-roomy3 .ensures) (c .before .before .if3 .left)) (sym (le-leb (atBytes (c .before .before .before .before .before .before .before .before .args .nodes) (c .before .before .before .before .before .before .before .before .args .entries) (c .before .before .before .before .before .before .before .before .args .chunks) + leastArea) (c .before .before .before .before .before .before .before .before .args .extent) (omega (arith, (ap (λ y. y .bytes) (c .before .starts .ensures))))))))))
 
 pub place-tables-spec : {M : Type 1} → statement M
 place-tables-spec =

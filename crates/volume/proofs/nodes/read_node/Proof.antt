@@ -1,7 +1,7 @@
 use borrow.Author.Needs.{needs}
 use Rattle.volume.proofs.nodes.read_node.Statement.{statement}
 use denote.Ref.{now}
-use Rattle.volume.proofs.RowSteps.{node-read}
+use Rattle.volume.proofs.RowFields.{node-read}
 use Rattle.volume.proofs.nodes.read_node.Tie as tie
 
 add-get8 : tie.Need-add-get8

@@ -2,10 +2,11 @@ use borrow.Author.Needs.{needs}
 use Rattle.volume.proofs.nodes.seek_node.Statement.{statement}
 use denote.Ref.{now}
 use Prim.Native.Nat.{_+_, _-_, _*_, _/_}
+use borrow.Author.Tests.{lt-ltb, le-ltb}
 use Rattle.volume.specs.Rows.{readNode}
 use Rattle.volume.specs.Search.{nodeUnder}
 use Rattle.words.proofs.Search.{Between, all-between, upper-half, lower-half, none-between}
-use Rattle.volume.proofs.RowSteps.{node-is-under, node-not-under}
+use Rattle.volume.proofs.RowFields.{node-is-under}
 use Rattle.volume.proofs.nodes.seek_node.Tie as tie
 
 abbrev Inv-loop : tie.InvT-loop
@@ -41,14 +42,14 @@ loop-less c = search needs
 
 loop-again : tie.Need-loop-again Inv-loop μ-loop
 loop-again c =
-    upper-half (nodeUnder (c .before .before .before .before .before .args .node)) readNode 40 (now (c .before .before .before .before .before .args .volume)) (c .before .before .before .before .before .args .base) (c .before .before .before .before .before .args .used) (c .before .before .before .loop .low) (c .before .before .before .loop .high) (c .before .before .before .loop .inv) (c .before .before .loop-test .taken) (c .before .before .before .before .before .pre .1) (node-is-under (now (c .before .before .before .before .before .args .volume)) (c .before .before .before .before .before .args .base + 40 * (c .before .before .before .loop .low + (c .before .before .before .loop .high - c .before .before .before .loop .low) / 2)) (c .before .before .before .before .before .args .node) (c .before .get64 .ensures) (c .if1 .taken))
+    upper-half (nodeUnder (c .before .before .before .before .before .args .node)) readNode 40 (now (c .before .before .before .before .before .args .volume)) (c .before .before .before .before .before .args .base) (c .before .before .before .before .before .args .used) (c .before .before .before .loop .low) (c .before .before .before .loop .high) (c .before .before .before .loop .inv) (c .before .before .loop-test .taken) (c .before .before .before .before .before .pre .1) (node-is-under (now (c .before .before .before .before .before .args .volume)) (c .before .before .before .before .before .args .base + 40 * (c .before .before .before .loop .low + (c .before .before .before .loop .high - c .before .before .before .loop .low) / 2)) (c .before .before .before .before .before .args .node) (c .before .get64 .ensures) (lt-ltb _ _ (c .if1 .taken)))
 
 loop-less-2 : tie.Need-loop-less-2 Inv-loop μ-loop
 loop-less-2 c = search needs
 
 loop-again-2 : tie.Need-loop-again-2 Inv-loop μ-loop
 loop-again-2 c =
-    lower-half (nodeUnder (c .before .before .before .before .before .args .node)) readNode 40 (now (c .before .before .before .before .before .args .volume)) (c .before .before .before .before .before .args .base) (c .before .before .before .before .before .args .used) (c .before .before .before .loop .low) (c .before .before .before .loop .high) (c .before .before .before .loop .inv) (c .before .before .loop-test .taken) (node-not-under (now (c .before .before .before .before .before .args .volume)) (c .before .before .before .before .before .args .base + 40 * (c .before .before .before .loop .low + (c .before .before .before .loop .high - c .before .before .before .loop .low) / 2)) (c .before .before .before .before .before .args .node) (c .before .get64 .ensures) (c .if1 .left))
+    lower-half (nodeUnder (c .before .before .before .before .before .args .node)) readNode 40 (now (c .before .before .before .before .before .args .volume)) (c .before .before .before .before .before .args .base) (c .before .before .before .before .before .args .used) (c .before .before .before .loop .low) (c .before .before .before .loop .high) (c .before .before .before .loop .inv) (c .before .before .loop-test .taken) (node-is-under (now (c .before .before .before .before .before .args .volume)) (c .before .before .before .before .before .args .base + 40 * (c .before .before .before .loop .low + (c .before .before .before .loop .high - c .before .before .before .loop .low) / 2)) (c .before .before .before .before .before .args .node) (c .before .get64 .ensures) (le-ltb _ _ (c .if1 .left)))
 
 returns : tie.Need-returns Inv-loop μ-loop
 returns c =

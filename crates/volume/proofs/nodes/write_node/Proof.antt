@@ -1,7 +1,7 @@
 use borrow.Author.Needs.{needs}
 use Rattle.volume.proofs.nodes.write_node.Statement.{statement}
 use denote.Ref.{now}
-use Rattle.volume.proofs.RowSteps.{node-written}
+use Rattle.volume.proofs.RowFields.{node-written}
 use Rattle.volume.proofs.nodes.write_node.Tie as tie
 
 kind-byte-requires : tie.Need-kind-byte-requires

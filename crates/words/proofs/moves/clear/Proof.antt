@@ -6,7 +6,7 @@ use denote.Ref.{now}
 use lib.ListN.{length, length-set}
 use Rattle.words.specs.Bytes.{over, zeros}
 use Rattle.words.proofs.Parts.{over-nil}
-use Rattle.words.proofs.Turns.{clear-turn}
+use Rattle.words.proofs.WriteLoops.{clear-turn}
 use Rattle.words.proofs.moves.clear.Statement.{statement}
 use Rattle.words.proofs.moves.clear.Tie as tie
 

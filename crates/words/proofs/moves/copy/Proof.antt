@@ -7,7 +7,7 @@ use lib.ListN.{length, take, length-set}
 use lib.Seq.{take-all}
 use Rattle.words.specs.Bytes.{over}
 use Rattle.words.proofs.Parts.{over-nil}
-use Rattle.words.proofs.Turns.{copy-turn}
+use Rattle.words.proofs.WriteLoops.{copy-turn}
 use Rattle.words.proofs.moves.copy.Statement.{statement}
 use Rattle.words.proofs.moves.copy.Tie as tie
 

@@ -6,7 +6,7 @@ use denote.Ref.{now}
 use lib.ListN.{length, length-set}
 use Rattle.words.specs.Bytes.{over, part}
 use Rattle.words.proofs.Parts.{over-nil, part-none}
-use Rattle.words.proofs.Turns.{up-turn}
+use Rattle.words.proofs.WriteLoops.{up-turn}
 use Rattle.words.proofs.moves.shift_up.Statement.{statement}
 use Rattle.words.proofs.moves.shift_up.Tie as tie
 

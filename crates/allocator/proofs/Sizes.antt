@@ -1,0 +1,58 @@
+-- Laws of the accepted sizes, and of setting one.
+-- Assumes nothing.
+use mathlib.Core.Path.{_≡_, refl}
+use mathlib.Core.Bool.{Bool, true, false}
+use mathlib.Core.Logic.{_⊎_, inl, inr}
+use Prim.Native.Nat.{ℕ, _≤_}
+use native.Mathlib.Omega.{arith}
+use lib.Dec.{eqb}
+use borrow.Author.Tests.{ne-eqb}
+use Rattle.words.specs.Rules.{pick, either}
+use Rattle.words.proofs.Rules.{Says, holds, says-either, says-eqb, says-true}
+use Rattle.types.specs.declared.Answer.the-variants.{Done, Refused}
+use Rattle.types.specs.declared.Error.the-variants.{InvalidArgument}
+use Rattle.allocator.specs.Sizes.{acceptedSize}
+use Rattle.allocator.specs.Allocator.{Allocator, Step, withSize, setChunkSize}
+
+pub accepted-1 : {s : ℕ} → s ≡ 4096 → true ≡ acceptedSize s
+unfolding acceptedSize either
+accepted-1 e = rw e
+
+pub accepted-2 : {s : ℕ} → s ≡ 16384 → true ≡ acceptedSize s
+unfolding acceptedSize either
+accepted-2 e = rw e
+
+pub accepted-3 : {s : ℕ} → s ≡ 65536 → true ≡ acceptedSize s
+unfolding acceptedSize either
+accepted-3 e = rw e
+
+pub accepted-none : {s : ℕ} → (s ≡ 4096 → ⊥) → (s ≡ 16384 → ⊥) → (s ≡ 65536 → ⊥) → false ≡ acceptedSize s
+unfolding acceptedSize either
+accepted-none a b c = rw (ne-eqb _ _ a, ne-eqb _ _ b, ne-eqb _ _ c)
+
+pub says-accepted : (s : ℕ) → Says ((s ≡ 4096) ⊎ ((s ≡ 16384) ⊎ (s ≡ 65536))) (acceptedSize s)
+unfolding acceptedSize
+says-accepted s = says-either (says-eqb s 4096) (says-either (says-eqb s 16384) (says-eqb s 65536))
+
+-- an accepted size lies between the least and the greatest
+pub accepted-bounds : (s : ℕ) → acceptedSize s ≡ true → (4096 ≤ s) × (s ≤ 65536)
+accepted-bounds s e = go (says-true (says-accepted s) e)
+  where
+    go : (s ≡ 4096) ⊎ ((s ≡ 16384) ⊎ (s ≡ 65536)) → (4096 ≤ s) × (s ≤ 65536)
+    go (inl h) = (omega arith, omega arith)
+    go (inr (inl h)) = (omega arith, omega arith)
+    go (inr (inr h)) = (omega arith, omega arith)
+
+-- ---- a size set
+
+-- what holds of the allocator as it was, and with another accepted size while word 3 is 0, holds of what the call leaves
+pub size-cases : (P : Allocator → Type 0) (s : ℕ) (a : Allocator) → P a → (acceptedSize s ≡ true → a .nextPtr ≡ 0 → P (withSize s a)) → P (setChunkSize s a .after)
+unfolding setChunkSize pick
+size-cases P s a same other = go (acceptedSize s) refl (eqb (a .chunkSize) s) (eqb (a .nextPtr) 0) (says-eqb (a .nextPtr) 0)
+  where
+    go : (b : Bool) → acceptedSize s ≡ b → (c d : Bool) → Says (a .nextPtr ≡ 0) d
+        → P (pick {A = Step} b (pick {A = Step} c (record { answer = Done 0; after = a }) (pick {A = Step} d (record { answer = Done 0; after = withSize s a }) (record { answer = Refused InvalidArgument; after = a }))) (record { answer = Refused InvalidArgument; after = a }) .after)
+    go true e true d z = same
+    go true e false true (holds z) = other e z
+    go true e false false z = same
+    go false e c d z = same

@@ -1,0 +1,15 @@
+pub mod FileRows
+pub mod ReadGives
+pub mod ReadPieces
+pub mod WriteLoop
+pub mod LentChunk
+pub mod TakeSteps
+pub mod WriteSteps
+pub mod FreeSteps
+pub mod ResizeSteps
+pub mod LimitSteps
+pub mod WriteKept
+pub mod ResizeKept
+pub mod PosixWrite
+pub mod Reshaped
+pub mod BoundaryRows

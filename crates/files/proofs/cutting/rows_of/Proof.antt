@@ -1,0 +1,74 @@
+use Rattle.files.proofs.cutting.rows_of.Statement.{statement}
+use Rattle.files.proofs.cutting.rows_of.Tie as tie
+use borrow.Author.Needs.{needs}
+use mathlib.Core.Path.{_≡_}
+use Prim.Native.Nat.{_+_, _-_, _≤_}
+use native.Mathlib.Omega.{arith}
+use denote.Ref.{now}
+use lib.ListN.{drop}
+use Rattle.words.specs.Tables.{lead}
+use Rattle.volume.specs.Volume.{shown}
+use Rattle.store.proofs.CutRows.{ofNode}
+use Rattle.words.proofs.Search.{walk-start, walk-turn, walk-stop, walk-end}
+use borrow.Author.Tests.{eq-eqb, ne-eqb}
+use mathlib.Core.List.{[]}
+use Rattle.volume.specs.Rows.{readChunk}
+
+abbrev Inv-loop : tie.InvT-loop
+Inv-loop volume layout node first used i₀ i =
+    (first ≤ i) × (i ≤ used) × (lead (ofNode node) (drop first (shown volume .store .chunks)) ≡ i - first + lead (ofNode node) (drop i (shown volume .store .chunks)))
+
+abbrev μ-loop : tie.MeasureT-loop
+μ-loop volume layout node first used i₀ i = used - i
+
+chunks-used-requires : tie.Need-chunks-used-requires Inv-loop μ-loop
+chunks-used-requires c κs = search needs
+
+loop-holds : tie.Need-loop-holds Inv-loop μ-loop
+loop-holds c =
+    (search needs, omega (arith, c .before .before .pre .1, c .chunks-used .ensures .0), walk-start (ofNode (c .before .before .args .node)) (readChunk []) (shown (now (c .before .before .args .volume)) .store .chunks) (c .before .before .args .first))
+
+chunk-row-requires : tie.Need-chunk-row-requires Inv-loop μ-loop
+chunk-row-requires c κs =
+    (c .before .before .before .before .pre .0, omega (arith, c .loop-test .taken, c .before .before .chunks-used .ensures .0))
+
+sub-result : tie.Need-sub-result Inv-loop μ-loop
+sub-result c = search needs
+
+returns : tie.Need-returns Inv-loop μ-loop
+returns c =
+    walk-stop (ofNode (c .before .before .before .before .before .before .before .args .node)) (readChunk []) (shown (now (c .before .before .before .before .before .before .before .args .volume)) .store .chunks) (c .before .before .before .before .before .before .before .args .first) (c .before .before .before .before .loop .i) (c .before .before .before .before .loop .inv .2) (c .before .before .before .before .loop .inv .0) (omega (arith, c .before .before .before .loop-test .taken, c .before .before .before .before .before .chunks-used .ensures .0)) (c .before .before .chunk-row .ensures) (ne-eqb _ _ (c .if1 .taken))
+
+add-i : tie.Need-add-i Inv-loop μ-loop
+add-i c = search needs
+
+loop-less : tie.Need-loop-less Inv-loop μ-loop
+loop-less c = search needs
+
+loop-again : tie.Need-loop-again Inv-loop μ-loop
+loop-again c =
+    (omega arith, omega arith, walk-turn (ofNode (c .before .before .before .before .before .before .before .args .node)) (readChunk []) (shown (now (c .before .before .before .before .before .before .before .args .volume)) .store .chunks) (c .before .before .before .before .before .before .before .args .first) (c .before .before .before .before .loop .i) (c .before .before .before .before .loop .inv .2) (c .before .before .before .before .loop .inv .0) (omega (arith, c .before .before .before .loop-test .taken, c .before .before .before .before .before .chunks-used .ensures .0)) (c .before .before .chunk-row .ensures) (eq-eqb _ _ (c .if1 .left)))
+
+sub-result-2 : tie.Need-sub-result-2 Inv-loop μ-loop
+sub-result-2 c = search needs
+
+returns-2 : tie.Need-returns-2 Inv-loop μ-loop
+returns-2 c =
+    walk-end (ofNode (c .before .before .before .before .args .node)) (readChunk []) (shown (now (c .before .before .before .before .args .volume)) .store .chunks) (c .before .before .before .before .args .first) (c .before .loop .i) (c .before .loop .inv .2) (c .before .loop .inv .0) (omega (arith, c .loop-test .left, c .before .before .chunks-used .ensures .0))
+
+pub rows-of-spec : {M : Type 1} → statement M
+rows-of-spec =
+    tie.close
+    (tie.spec
+    Inv-loop
+    μ-loop
+    chunks-used-requires
+    loop-holds
+    chunk-row-requires
+    sub-result
+    returns
+    add-i
+    loop-less
+    loop-again
+    sub-result-2
+    returns-2)

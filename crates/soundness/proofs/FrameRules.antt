@@ -1,0 +1,99 @@
+-- Laws of the frame: the test says whether bytes are framed, and what its code finds.
+-- Assumes nothing.
+use mathlib.Core.Path.{_≡_, ap, _∙_}
+use mathlib.Core.Bool.{Bool, true, false}
+use mathlib.Core.List.{List}
+use Prim.Native.Nat.{ℕ, _+_, _-_, _*_, _/_, _≤_, _<_}
+use native.Mathlib.Omega.{arith}
+use lib.ListN.{length, take, drop}
+use Rattle.words.specs.Bytes.{word, part}
+use Rattle.words.specs.Rules.{allZero}
+use Rattle.words.proofs.Parts.{length-part}
+use Rattle.words.proofs.Numbers.{num-part}
+use Rattle.words.proofs.Joined.{upto-all}
+use Rattle.words.proofs.Rules.{Says, holds, says-map, says-both, says-and, says-upto, says-eqb, says-leb, says-itself, says-true, go-on}
+use Rattle.words.proofs.Blocks.{says-zeros}
+use Rattle.allocator.specs.Sizes.{acceptedSize}
+use Rattle.allocator.specs.Allocator.{marker}
+use Rattle.allocator.specs.Words.{wellMarked}
+use Rattle.volume.specs.Volume.{form, atNodes, atEntries, atChunks}
+use denote.Enum.Declared.{tagOf}
+use Rattle.volume.specs.declared.Place.{Place}
+use Rattle.volume.specs.declared.Place.the-variants.{At, Nowhere}
+use Rattle.volume.specs.declared.Layout.{Layout}
+use Rattle.volume.specs.Geometry.{layoutOf, placed, placeOf}
+use Rattle.volume.specs.Framed.{Headed, Marked, NodeFormed, EntryFormed, RowsFormed, Framed}
+use Rattle.volume.proofs.Place.{the-type}
+use Rattle.volume.specs.RowTests.{nodeFormed, entryFormed}
+use Rattle.volume.proofs.RowTests.{says-node, says-entry}
+use Rattle.volume.proofs.GeometryRules.{says-placed, not-placed, is-placed}
+use Rattle.soundness.specs.FrameRules.{headed, marked, rowsFormed, formed, framed}
+
+-- ---- the tests mean what the records say
+
+says-headed : (l : List ℕ) → Says (Headed l) (headed l)
+unfolding headed
+says-headed l =
+    says-map (λ p. record { least = p .0; formed = p .1 .0; placed = p .1 .1 .0; nodes = p .1 .1 .1 .0; entries = p .1 .1 .1 .1 .0; chunks = p .1 .1 .1 .1 .1 })
+    (λ h. (h .least, (h .formed, (h .placed, (h .nodes, (h .entries, h .chunks))))))
+    (says-both (says-leb 64 (length l)) (says-both (says-eqb (word l 0) form) (says-both (says-placed (word l 8) (word l 16) (word l 24) (length l))
+    (says-both (says-leb (word l 32) (word l 8)) (says-both (says-leb (word l 40) (word l 16)) (says-leb (word l 48) (word l 24)))))))
+
+says-marked : (l : List ℕ) → Says (Marked l) (marked l)
+unfolding marked
+says-marked l =
+    says-map (λ p. record { mark = p .0; size = p .1 .0; free = p .1 .1 }) (λ h. (h .mark, (h .size, h .free)))
+    (says-both (says-eqb (word l 64) marker) (says-both (says-itself (acceptedSize (word l 72))) (says-leb (word l 80) (word l 24))))
+
+says-rows : (Row : ℕ → Type 0) (row : ℕ → Bool) (s : ℕ) (l : List ℕ) (at used room : ℕ) → at + s * used + s * (room - used) ≤ length l → ((i : ℕ) → i < used → Says (Row (at + s * i)) (row (at + s * i)))
+    → Says (RowsFormed Row s l at used room) (rowsFormed row s l at used room)
+unfolding rowsFormed
+says-rows Row row s l at used room h each =
+    says-map (λ p. record { rows = p .0; unused = p .1 }) (λ f. (f .rows, f .unused))
+    (says-both (says-upto (λ i. Row (at + s * i)) (λ i. row (at + s * i)) used each) (says-zeros l (at + s * used) (s * (room - used)) h))
+
+pub says-framed : (l : List ℕ) → Says (Framed l) (framed l)
+unfolding framed formed
+says-framed l =
+    says-map (λ p. record { headed = p .0; marked = p .1 .0; nodes = p .1 .1 .0; entries = p .1 .1 .1 .0; chunks = p .1 .1 .1 .1 }) (λ f. (f .headed, (f .marked, (f .nodes, (f .entries, f .chunks)))))
+    (says-and (says-headed l) (λ h. says-both (says-marked l)
+    (says-both (says-rows (NodeFormed l) (nodeFormed l) 40 l (atNodes (word l 24)) (word l 32) (word l 8) (omega arith) (λ i b. says-node l (atNodes (word l 24) + 40 * i) (omega arith)))
+    (says-both (says-rows (EntryFormed l) (entryFormed l) 280 l (atEntries (word l 8) (word l 24)) (word l 40) (word l 16) (omega arith) (λ i b. says-entry l (atEntries (word l 8) (word l 24) + 280 * i) (omega arith)))
+    (says-rows (λ _. Unit {0}) (λ _. true) 24 l (atChunks (word l 8) (word l 16) (word l 24)) (word l 48) (word l 24) (omega arith) (λ i b. holds tt))))))
+
+pub framed-true : (l : List ℕ) → framed l ≡ true → Framed l
+framed-true l e = says-true (says-framed l) e
+
+pub headed-true : (l : List ℕ) → headed l ≡ true → Headed l
+headed-true l e = says-true (says-headed l) e
+
+-- ---- what the code finds
+
+-- rooms that a header holds, and the place that they give
+module _ (l : List ℕ) {n e c : ℕ} (p : n ≡ word l 8) (q : e ≡ word l 16) (t : c ≡ word l 24) (r : Place) where
+  pub placed-no : tagOf the-type r ≡ 1 → r ≡ placeOf n e c (length l) → placed (word l 8) (word l 16) (word l 24) (length l) ≡ false
+  placed-no k h = rw (← p, ← q, ← t) (not-placed n e c (length l) r k h)
+
+  pub placed-yes : tagOf the-type r ≡ 0 → r ≡ placeOf n e c (length l) → placed (word l 8) (word l 16) (word l 24) (length l) ≡ true
+  placed-yes k h = rw (← p, ← q, ← t) (go r k h)
+    where
+      go : (s : Place) → tagOf the-type s ≡ 0 → s ≡ placeOf n e c (length l) → placed n e c (length l) ≡ true
+      go (At y) k h = is-placed n e c (length l) h .0
+      go Nowhere k h = absurd (omega arith)
+
+pub any-rows : (s : ℕ) (l : List ℕ) (at used room : ℕ) {r : Bool} → r ≡ allZero (part l (at + s * used) (s * (room - used))) → r ≡ rowsFormed (λ _. true) s l at used room
+unfolding rowsFormed
+any-rows s l at used room e = go-on _ _ (upto-all used) e
+
+-- rows of a table, with numbers that were read
+pub rows-at : (row : ℕ → Bool) (s : ℕ) (l : List ℕ) {at used room a u m : ℕ} {r : Bool} → at ≡ a → used ≡ u → room ≡ m → r ≡ rowsFormed row s l at used room → r ≡ rowsFormed row s l a u m
+rows-at row s l p q t e = e ∙ rw (p, q, t)
+
+-- the allocator's words, lent as a part of the volume
+pub marked-lent : (l : List ℕ) → Headed l → {y : Layout} {r : Bool} → y ≡ layoutOf (word l 8) (word l 16) (word l 24) → r ≡ wellMarked (take (y .nodes - 64) (drop 64 l)) → r ≡ marked l
+unfolding marked wellMarked part
+marked-lent l h {y} e q =
+    let k : y .nodes - 64 ≡ 128 + 8 * word l 24 = omega (arith, ap (λ z. z .nodes) e) in
+    let w : List ℕ = part l 64 (128 + 8 * word l 24) in
+    let n : length w / 8 - 16 ≡ word l 24 = rw (length-part l 64 (128 + 8 * word l 24) (omega (arith, h .placed .long))) (omega arith) in
+    q ∙ rw (k, num-part 8 l 64 (128 + 8 * word l 24) 0 (omega arith), num-part 8 l 64 (128 + 8 * word l 24) 8 (omega arith), num-part 8 l 64 (128 + 8 * word l 24) 16 (omega arith), n)

@@ -1,0 +1,58 @@
+-- The whole check: the frame, then the rules of the tables, grouped as `Good` is: nodes and entries, the chunk store, and what they say of each
+-- other; each group in the scope's order. A rule that searches a table stands behind that table's order.
+-- Assumes nothing.
+use Prim.Native.Nat.{ℕ}
+use mathlib.Core.Bool.{Bool}
+use mathlib.Core.List.{List}
+use lib.ListN.{length}
+use Rattle.words.specs.Bytes.{word}
+use Rattle.words.specs.Rules.{both, pick}
+use Rattle.allocator.specs.Allocator.{free}
+use Rattle.volume.specs.declared.Place.{Place}
+use Rattle.volume.specs.declared.Place.the-variants.{At, Nowhere}
+use Rattle.volume.specs.Volume.{Names, Store, Volume, shown}
+use Rattle.volume.specs.Geometry.{layoutOf}
+use Rattle.soundness.specs.FrameRules.{framed}
+use Rattle.soundness.specs.OrderRules.{nodesAscend, entriesAscend, chunksAscend, indexed, nodesBelow, rooted, rootUnnamed, namesAllowed}
+use Rattle.soundness.specs.EntryRules.{parentsGood, targetsFound, namesOnce}
+use Rattle.soundness.specs.NodeRules.{nodesGood}
+use Rattle.soundness.specs.PointerRules.{nextFits, pointersGood}
+use Rattle.soundness.specs.OwnerRules.{owned}
+
+-- ---- nodes and entries
+
+-- orders
+unfoldable pub ordered : Names → Bool
+ordered a = both (nodesAscend (a .nodes)) (entriesAscend (a .entries))
+
+-- an entry's index, next node, node 0, names
+unfoldable pub numbered : Names → Bool
+numbered a = both (indexed (a .entries)) (both (nodesBelow (a .nextNode) (a .nodes)) (both (rooted (a .nodes)) (both (rootUnnamed (a .entries)) (namesAllowed (a .entries)))))
+
+-- parents and targets, names twice, links and sizes
+unfoldable pub related : Names → Bool
+related a = both (parentsGood (a .nodes) (a .entries)) (both (targetsFound (a .nodes) (a .entries)) (both (namesOnce (a .entries)) (nodesGood (a .nodes) (a .entries))))
+
+unfoldable pub named : Names → Bool
+named a = both (ordered a) (both (numbered a) (related a))
+
+-- ---- the chunk store
+
+-- order, word 3, pointers
+unfoldable pub stored : Store → Bool
+stored s =
+    both (chunksAscend (s .chunks))
+    (both (nextFits (s .allocator .chunkSize) (s .allocator .nextPtr) (length (s .bytes)) (s .chunkRoom))
+    (pointersGood (s .allocator .chunkSize) (s .allocator .nextPtr) (s .chunks) (free (s .allocator))))
+
+-- ---- all of it
+
+unfoldable pub good : Volume → Bool
+good v = both (named (v .names)) (both (stored (v .store)) (owned (v .names) (v .store)))
+
+unfoldable pub sound : List ℕ → Bool
+sound l = both (framed l) (good (shown l))
+
+-- where the areas of a sound memory start
+unfoldable pub opened : List ℕ → Place
+opened l = pick (sound l) (At (layoutOf (word l 8) (word l 16) (word l 24))) Nowhere

@@ -1,0 +1,43 @@
+-- Rules between entries and the nodes they name, and between entries of one directory, as tests by their places in the tables.
+-- Assumes nothing.
+use Prim.Native.Nat.{ℕ, _+_, _-_}
+use mathlib.Core.Bool.{Bool, true, false, not}
+use mathlib.Core.List.{List}
+use lib.ListN.{length}
+use Rattle.words.specs.Rules.{upto, same}
+use Rattle.words.specs.Tables.{lead}
+use Rattle.types.specs.Nodes.{isDirectory}
+use Rattle.types.specs.declared.NodeRecord.{NodeRecord}
+use Rattle.volume.specs.Rows.{Entry}
+use Rattle.volume.specs.Search.{entryUnder}
+use Rattle.tables.specs.Tables.{nodeAt, entryAt, foundNode}
+use Rattle.tables.specs.declared.Found.{Found}
+use Rattle.tables.specs.declared.Found.the-variants.{At, Nothing}
+
+-- what a search found is there, is a directory
+unfoldable pub isFound : Found → Bool
+isFound (At i) = true
+isFound Nothing = false
+
+unfoldable pub foundDirectory : List NodeRecord → Found → Bool
+foundDirectory rs (At i) = isDirectory (nodeAt rs i .kind)
+foundDirectory rs Nothing = false
+
+-- every entry's parent is a directory and its node has a row
+unfoldable pub parentsGood : List NodeRecord → List Entry → Bool
+parentsGood rs es = upto (length es) (λ i. foundDirectory rs (foundNode (entryAt es i .parent) rs))
+
+unfoldable pub targetsFound : List NodeRecord → List Entry → Bool
+targetsFound rs es = upto (length es) (λ i. isFound (foundNode (entryAt es i .node) rs))
+
+-- the first row of the directory that row i stands in: rows ascend, so that those between are of the same directory
+unfoldable pub firstBeside : List Entry → ℕ → ℕ
+firstBeside es i = lead (entryUnder (entryAt es i .parent) 0) es
+
+-- no row between has the name of row i
+unfoldable pub nameNew : List Entry → ℕ → Bool
+nameNew es i = upto (i - firstBeside es i) (λ k. not (same (entryAt es (firstBeside es i + k) .name) (entryAt es i .name)))
+
+-- no name stands twice in a directory
+unfoldable pub namesOnce : List Entry → Bool
+namesOnce es = upto (length es) (λ i. nameNew es i)

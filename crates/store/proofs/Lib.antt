@@ -1,0 +1,17 @@
+pub mod Content
+pub mod Workable
+pub mod ChunkPlaces
+pub mod Holes
+pub mod Taken
+pub mod KeptFields
+pub mod Put
+pub mod WriteChunks
+pub mod Written
+pub mod Cut
+pub mod CutRows
+pub mod Shrunk
+pub mod OwnedContent
+pub mod RoomSteps
+pub mod WriteChunkSteps
+pub mod TailSteps
+pub mod SizeSet
