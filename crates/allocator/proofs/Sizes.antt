@@ -10,6 +10,7 @@ use borrow.Author.Tests.{ne-eqb}
 use Rattle.words.specs.Rules.{pick, either}
 use Rattle.words.proofs.Rules.{Says, holds, says-either, says-eqb, says-true}
 use Rattle.types.specs.declared.Answer.the-variants.{Done, Refused}
+use Rattle.types.specs.declared.Error.{Error}
 use Rattle.types.specs.declared.Error.the-variants.{InvalidArgument}
 use Rattle.allocator.specs.Sizes.{acceptedSize}
 use Rattle.allocator.specs.Allocator.{Allocator, Step, withSize, setChunkSize}
@@ -45,14 +46,15 @@ accepted-bounds s e = go (says-true (says-accepted s) e)
 
 -- ---- a size set
 
--- what holds of the allocator as it was, and with another accepted size while word 3 is 0, holds of what the call leaves
-pub size-cases : (P : Allocator → Type 0) (s : ℕ) (a : Allocator) → P a → (acceptedSize s ≡ true → a .nextPtr ≡ 0 → P (withSize s a)) → P (setChunkSize s a .after)
+-- what holds of a refusal, of the size that is set already, and of another accepted one while word 3 is 0, holds of the call
+pub size-cases : (P : Step → Type 0) (s : ℕ) (a : Allocator) → ((e : Error) → P (record { answer = Refused e; after = a })) → P (record { answer = Done 0; after = a })
+    → (acceptedSize s ≡ true → a .nextPtr ≡ 0 → P (record { answer = Done 0; after = withSize s a })) → P (setChunkSize s a)
 unfolding setChunkSize pick
-size-cases P s a same other = go (acceptedSize s) refl (eqb (a .chunkSize) s) (eqb (a .nextPtr) 0) (says-eqb (a .nextPtr) 0)
+size-cases P s a refusal same other = go (acceptedSize s) refl (eqb (a .chunkSize) s) (eqb (a .nextPtr) 0) (says-eqb (a .nextPtr) 0)
   where
     go : (b : Bool) → acceptedSize s ≡ b → (c d : Bool) → Says (a .nextPtr ≡ 0) d
-        → P (pick {A = Step} b (pick {A = Step} c (record { answer = Done 0; after = a }) (pick {A = Step} d (record { answer = Done 0; after = withSize s a }) (record { answer = Refused InvalidArgument; after = a }))) (record { answer = Refused InvalidArgument; after = a }) .after)
+        → P (pick b (pick c (record { answer = Done 0; after = a }) (pick d (record { answer = Done 0; after = withSize s a }) (record { answer = Refused InvalidArgument; after = a }))) (record { answer = Refused InvalidArgument; after = a }))
     go true e true d z = same
     go true e false true (holds z) = other e z
-    go true e false false z = same
-    go false e c d z = same
+    go true e false false z = refusal InvalidArgument
+    go false e c d z = refusal InvalidArgument

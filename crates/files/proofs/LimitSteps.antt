@@ -81,25 +81,25 @@ module _ (n : ℕ) (m : Limit) (l : List ℕ) (w : laid (shown l) ≡ l) (a : As
 
 -- ---- what it leaves
 
--- what holds of the volume as it was, and with the row of a file changed to a limit that it keeps, holds of what the call leaves
-limit-cases : (P : Volume → Type 0) (n : ℕ) (m : Limit) (v : Volume) → P v
-    → ((r : NodeRecord) → node n (v .names) ≡ some r → (r .kind ≡ Directory → ⊥) → limitWord m ≤ mostSize → r .size ≤ fileLimit m → P (onNames (withNode n (limited m)) v)) → P (setLimit n m v .after)
+-- what holds of a refusal, and of the row of a file changed to a limit that it keeps, holds of the call
+limit-cases : (P : Step → Type 0) (n : ℕ) (m : Limit) (v : Volume) → ((e : Error) → P (stays e v))
+    → ((r : NodeRecord) → node n (v .names) ≡ some r → (r .kind ≡ Directory → ⊥) → limitWord m ≤ mostSize → r .size ≤ fileLimit m → P (becomes 0 (onNames (withNode n (limited m)) v))) → P (setLimit n m v)
 unfolding setLimit limitFile pick
-limit-cases P n m v same other = go (setLimit n m v) (on-file n (v .names) (λ e. stays e v) (limitFile m v))
+limit-cases P n m v refusal accepted = go (setLimit n m v) (on-file n (v .names) (λ e. stays e v) (limitFile m v))
   where
     from-file : (r : NodeRecord) → node n (v .names) ≡ some r → r .node ≡ n → (r .kind ≡ Directory → ⊥) → (c : Bool) → Says (mostSize < limitWord m) c → (d : Bool) → Says (fileLimit m < r .size) d
-        → P (pick {A = Step} c (stays InvalidArgument v) (pick {A = Step} d (stays FileTooLarge v) (becomes 0 (onNames (withNode (r .node) (limited m)) v))) .after)
-    from-file r e i k true p d q = same
-    from-file r e i k false (fails p) true q = same
-    from-file r e i k false (fails p) false (fails q) = rw i (other r e k (omega arith) (omega arith))
+        → P (pick c (stays InvalidArgument v) (pick d (stays FileTooLarge v) (becomes 0 (onNames (withNode (r .node) (limited m)) v))))
+    from-file r e i k true p d q = refusal InvalidArgument
+    from-file r e i k false (fails p) true q = refusal FileTooLarge
+    from-file r e i k false (fails p) false (fails q) = rw i (accepted r e k (omega arith) (omega arith))
 
-    go : (s : Step) → OnFile Step n (v .names) (λ e. stays e v) (limitFile m v) s → P (s .after)
-    go s (stops e) = same
+    go : (s : Step) → OnFile Step n (v .names) (λ e. stays e v) (limitFile m v) s → P s
+    go s (stops e) = refusal e
     go s (goes-on r e i k) = from-file r e i k (ltb mostSize (limitWord m)) (says-ltb mostSize (limitWord m)) (ltb (fileLimit m) (r .size)) (says-ltb (fileLimit m) (r .size))
 
 -- a good volume that fits stays one
 pub limit-kept : (n : ℕ) (m : Limit) (v : Volume) → Fits v → Good v → Fits (setLimit n m v .after) × Good (setLimit n m v .after)
-limit-kept n m v f g = limit-cases (λ w. Fits w × Good w) n m v (f, g) accepted
+limit-kept n m v f g = limit-cases (λ s. Fits (s .after) × Good (s .after)) n m v (λ e. (f, g)) accepted
   where
     accepted : (r : NodeRecord) → node n (v .names) ≡ some r → (r .kind ≡ Directory → ⊥) → limitWord m ≤ mostSize → r .size ≤ fileLimit m → Fits (onNames (withNode n (limited m)) v) × Good (onNames (withNode n (limited m)) v)
     accepted r e file most size =
@@ -110,12 +110,16 @@ limit-kept n m v f g = limit-cases (λ w. Fits w × Good w) n m v (f, g) accepte
         each-map _ _ (λ c h. look-changed n (limited m) keeps r (v .names) e (Owned (v .store .allocator .chunkSize) (v .store .bytes) c) (c .node) (λ q. own c (rw (ap (λ (k : ℕ). node k (v .names)) q ∙ e) at h)) (λ _. h)) (v .store .chunks) (g .owned) in
         (record { names = fits-changed n (limited m) keeps r (v .names) e t (g .named) (λ _. most) (f .names); store = f .store }, record { named = named-changed n (limited m) keeps r (v .names) e t (g .named); stored = g .stored; owned = owned })
 
+-- a refusal leaves the volume as it was
+pub limit-leaves : (n : ℕ) (m : Limit) (v : Volume) (e : Error) → setLimit n m v .answer ≡ Refused e → setLimit n m v .after ≡ v
+limit-leaves n m v e = limit-cases (λ s. s .answer ≡ Refused e → s .after ≡ v) n m v (λ d q. refl) (λ r d file most size q. let x : _≡_ {A = ℕ} 0 1 = cc in absurd (omega arith))
+
 -- every file's bytes are as they were
 pub limit-content : (n : ℕ) (m : Limit) (v : Volume) (k j : ℕ) → byteAt (setLimit n m v .after .store) k j ≡ byteAt (v .store) k j
 unfolding byteAt
-limit-content n m v k j = limit-cases (λ w. byteAt (w .store) k j ≡ byteAt (v .store) k j) n m v refl (λ r e file most size. refl)
+limit-content n m v k j = limit-cases (λ s. byteAt (s .after .store) k j ≡ byteAt (v .store) k j) n m v (λ e. refl) (λ r e file most size. refl)
 
 -- and so is every other node
 pub limit-others : (n : ℕ) (m : Limit) (v : Volume) (k : ℕ) → (k ≡ n → ⊥) → node k (setLimit n m v .after .names) ≡ node k (v .names)
 unfolding node
-limit-others n m v k h = limit-cases (λ w. node k (w .names) ≡ node k (v .names)) n m v refl (λ r e file most size. find-other n (limited m) (λ s. refl) k h (v .names .nodes))
+limit-others n m v k h = limit-cases (λ s. node k (s .after .names) ≡ node k (v .names)) n m v (λ e. refl) (λ r e file most size. find-other n (limited m) (λ s. refl) k h (v .names .nodes))

@@ -39,7 +39,7 @@ door-sound call keeps l b h =
 pub set-kept : (s : ℕ) (v : Volume) → Fits v → Good v → Fits (chunkSizeSet s v .after) × Good (chunkSizeSet s v .after)
 unfolding chunkSizeSet
 set-kept s v f g =
-    size-cases (λ a. Fits (onStore (withAllocator a) v) × Good (onStore (withAllocator a) v)) s (v .store .allocator) (f, g)
+    size-cases (λ t. Fits (onStore (withAllocator (t .after)) v) × Good (onStore (withAllocator (t .after)) v)) s (v .store .allocator) (λ e. (f, g)) (f, g)
     (λ e z. (record { names = f .names; store = size-fits s (v .store) (f .store) e }, record { named = g .named; stored = size-stored s (v .store) (g .stored) z; owned = unfold Each in rw (unused (v .store) (g .stored) z .0) tt }))
 
 -- set chunk size leaves a sound memory sound

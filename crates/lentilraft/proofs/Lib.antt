@@ -2,3 +2,5 @@ pub mod Lines
 pub mod Reported
 pub mod Door
 pub mod Kept
+pub mod Refusal
+pub mod NewVolume

@@ -3,11 +3,12 @@
 use types::Limit;
 ghost use mathlib.Core.Path.{_≡_};
 ghost use Rattle.types.specs.declared.Limit.the-variants.{Unlimited, AtMost};
-ghost use Rattle.types.specs.Answers.{number, value};
+ghost use Rattle.types.specs.Answers.{number};
 ghost use Rattle.allocator.specs.Opening.{opened};
 ghost use Rattle.volume.specs.Fresh.{newVolume};
 ghost use Rattle.lentilraft.specs.Door.{check, setChunkSize, setLimit, read, resizeFile, write};
 ghost use Rattle.lentilraft.specs.Report.{report};
+ghost use Rattle.rim.specs.Given.{Gives, GivesCount};
 
 #[no_mangle]
 pub extern "C" fn lentilraft_new_volume(
@@ -17,7 +18,7 @@ pub extern "C" fn lentilraft_new_volume(
     chunks: u64,
     size: u64,
 ) -> u32
-    ensures { λ r. ⌜ (r ≡ number (newVolume nodes entries chunks size (now (volume .entry)) .answer)) × (now (volume .exit) ≡ newVolume nodes entries chunks size (now (volume .entry)) .bytes) ⌝ }
+    ensures { λ r. ⌜ Gives (newVolume nodes entries chunks size (now (volume .entry))) r (now (volume .exit)) ⌝ }
 {
     types::number(volume::new_volume(volume, nodes, entries, chunks, size))
 }
@@ -31,14 +32,14 @@ pub extern "C" fn lentilraft_check(volume: &[u8]) -> u32
 
 #[no_mangle]
 pub extern "C" fn lentilraft_open_allocator(words: &mut [u8]) -> u32
-    ensures { λ r. ⌜ (r ≡ number (opened (now (words .entry)) .answer)) × (now (words .exit) ≡ opened (now (words .entry)) .bytes) ⌝ }
+    ensures { λ r. ⌜ Gives (opened (now (words .entry))) r (now (words .exit)) ⌝ }
 {
     types::number(allocator::open(words))
 }
 
 #[no_mangle]
 pub extern "C" fn lentilraft_set_chunk_size(volume: &mut [u8], size: u64) -> u32
-    ensures { λ r. ⌜ (r ≡ number (setChunkSize size (now (volume .entry)) .answer)) × (now (volume .exit) ≡ setChunkSize size (now (volume .entry)) .bytes) ⌝ }
+    ensures { λ r. ⌜ Gives (setChunkSize size (now (volume .entry))) r (now (volume .exit)) ⌝ }
 {
     types::number(lentilraft::set_chunk_size(volume, size))
 }
@@ -52,7 +53,7 @@ pub extern "C" fn lentilraft_read(
     buffer: &mut [u8],
     count: &mut u64,
 ) -> u32
-    ensures { λ r. ⌜ (r ≡ number (read node offset (now (volume .entry)) (now (buffer .entry)) .answer)) × (now (buffer .exit) ≡ read node offset (now (volume .entry)) (now (buffer .entry)) .bytes) × (now (count .exit) ≡ value (read node offset (now (volume .entry)) (now (buffer .entry)) .answer)) ⌝ }
+    ensures { λ r. ⌜ GivesCount (read node offset (now (volume .entry)) (now (buffer .entry))) r (now (buffer .exit)) (now (count .exit)) ⌝ }
 {
     let answer = lentilraft::read(volume, node, offset, buffer);
     *count = types::value(answer);
@@ -61,7 +62,7 @@ pub extern "C" fn lentilraft_read(
 
 #[no_mangle]
 pub extern "C" fn lentilraft_report(volume: &[u8], out: &mut [u8], count: &mut u64) -> u32
-    ensures { λ r. ⌜ (r ≡ number (report (now (volume .entry)) (now (out .entry)) .answer)) × (now (out .exit) ≡ report (now (volume .entry)) (now (out .entry)) .bytes) × (now (count .exit) ≡ value (report (now (volume .entry)) (now (out .entry)) .answer)) ⌝ }
+    ensures { λ r. ⌜ GivesCount (report (now (volume .entry)) (now (out .entry))) r (now (out .exit)) (now (count .exit)) ⌝ }
 {
     let answer = lentilraft::report(volume, out);
     *count = types::value(answer);
@@ -70,21 +71,21 @@ pub extern "C" fn lentilraft_report(volume: &[u8], out: &mut [u8], count: &mut u
 
 #[no_mangle]
 pub extern "C" fn lentilraft_set_limit(volume: &mut [u8], node: u64, limit: u64) -> u32
-    ensures { λ r. ⌜ (r ≡ number (setLimit node (AtMost limit) (now (volume .entry)) .answer)) × (now (volume .exit) ≡ setLimit node (AtMost limit) (now (volume .entry)) .bytes) ⌝ }
+    ensures { λ r. ⌜ Gives (setLimit node (AtMost limit) (now (volume .entry))) r (now (volume .exit)) ⌝ }
 {
     types::number(lentilraft::set_limit(volume, node, Limit::AtMost(limit)))
 }
 
 #[no_mangle]
 pub extern "C" fn lentilraft_clear_limit(volume: &mut [u8], node: u64) -> u32
-    ensures { λ r. ⌜ (r ≡ number (setLimit node Unlimited (now (volume .entry)) .answer)) × (now (volume .exit) ≡ setLimit node Unlimited (now (volume .entry)) .bytes) ⌝ }
+    ensures { λ r. ⌜ Gives (setLimit node Unlimited (now (volume .entry))) r (now (volume .exit)) ⌝ }
 {
     types::number(lentilraft::set_limit(volume, node, Limit::Unlimited))
 }
 
 #[no_mangle]
 pub extern "C" fn lentilraft_resize_file(volume: &mut [u8], node: u64, size: u64) -> u32
-    ensures { λ r. ⌜ (r ≡ number (resizeFile node size (now (volume .entry)) .answer)) × (now (volume .exit) ≡ resizeFile node size (now (volume .entry)) .bytes) ⌝ }
+    ensures { λ r. ⌜ Gives (resizeFile node size (now (volume .entry))) r (now (volume .exit)) ⌝ }
 {
     types::number(lentilraft::resize_file(volume, node, size))
 }
@@ -97,7 +98,7 @@ pub extern "C" fn lentilraft_write(
     bytes: &[u8],
     count: &mut u64,
 ) -> u32
-    ensures { λ r. ⌜ (r ≡ number (write node offset (now (bytes .entry)) (now (volume .entry)) .answer)) × (now (volume .exit) ≡ write node offset (now (bytes .entry)) (now (volume .entry)) .bytes) × (now (count .exit) ≡ value (write node offset (now (bytes .entry)) (now (volume .entry)) .answer)) ⌝ }
+    ensures { λ r. ⌜ GivesCount (write node offset (now (bytes .entry)) (now (volume .entry))) r (now (volume .exit)) (now (count .exit)) ⌝ }
 {
     let answer = lentilraft::write(volume, node, offset, bytes);
     *count = types::value(answer);

@@ -1,7 +1,6 @@
 // Read and write without the check, for bench/ alone: they tell a call's own work from the check's. They ask of their caller that the volume
 // is sound, and nothing sees to it at a caller that is not proved. So they are no part of the interface (rim).
-ghost use mathlib.Core.Path.{_≡_};
-ghost use Rattle.types.specs.Answers.{number, value};
+ghost use Rattle.rim.specs.Given.{GivesCount};
 ghost use Rattle.volume.specs.Sound.{Sound};
 ghost use Rattle.lentilraft.specs.Door.{read, write};
 
@@ -15,7 +14,7 @@ pub extern "C" fn unchecked_read(
     count: &mut u64,
 ) -> u32
     requires { ⌜ Sound (now volume) ⌝ }
-    ensures { λ r. ⌜ (r ≡ number (read node offset (now (volume .entry)) (now (buffer .entry)) .answer)) × (now (buffer .exit) ≡ read node offset (now (volume .entry)) (now (buffer .entry)) .bytes) × (now (count .exit) ≡ value (read node offset (now (volume .entry)) (now (buffer .entry)) .answer)) ⌝ }
+    ensures { λ r. ⌜ GivesCount (read node offset (now (volume .entry)) (now (buffer .entry))) r (now (buffer .exit)) (now (count .exit)) ⌝ }
 {
     let layout = volume::read_layout(volume);
     let answer = files::read(volume, layout, node, offset, buffer);
@@ -33,7 +32,7 @@ pub extern "C" fn unchecked_write(
     count: &mut u64,
 ) -> u32
     requires { ⌜ Sound (now volume) ⌝ }
-    ensures { λ r. ⌜ (r ≡ number (write node offset (now (bytes .entry)) (now (volume .entry)) .answer)) × (now (volume .exit) ≡ write node offset (now (bytes .entry)) (now (volume .entry)) .bytes) × (now (count .exit) ≡ value (write node offset (now (bytes .entry)) (now (volume .entry)) .answer)) ⌝ }
+    ensures { λ r. ⌜ GivesCount (write node offset (now (bytes .entry)) (now (volume .entry))) r (now (volume .exit)) (now (count .exit)) ⌝ }
 {
     let layout = volume::read_layout(volume);
     let answer = files::write(volume, layout, node, offset, bytes);

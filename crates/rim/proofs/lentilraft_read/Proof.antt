@@ -1,7 +1,7 @@
 use borrow.Author.Needs.{needs}
 use Rattle.rim.proofs.lentilraft_read.Statement.{statement}
 use Rattle.rim.proofs.lentilraft_read.Tie as tie
-use Rattle.types.proofs.Outcomes.{told-number, told-value}
+use Rattle.rim.proofs.OneGiven.{gives-count}
 
 read-requires : tie.Need-read-requires
 read-requires c κs = search needs
@@ -17,7 +17,7 @@ same-length c = search needs
 
 returns : tie.Need-returns
 returns c =
-    (told-number (c .before .before .before .before .read .ensures) (c .number .ensures .0) .0, told-number (c .before .before .before .before .read .ensures) (c .number .ensures .0) .1, told-value (c .before .before .before .before .read .ensures) (c .before .value .ensures))
+    gives-count (c .before .before .before .before .read .ensures) (c .number .ensures .0) (c .before .value .ensures)
 
 pub lentilraft-read-spec : {M : Type 1} → statement M
 lentilraft-read-spec =

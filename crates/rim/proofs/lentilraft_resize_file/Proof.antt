@@ -1,7 +1,7 @@
 use borrow.Author.Needs.{needs}
 use Rattle.rim.proofs.lentilraft_resize_file.Statement.{statement}
 use Rattle.rim.proofs.lentilraft_resize_file.Tie as tie
-use Rattle.types.proofs.Outcomes.{told-number}
+use Rattle.rim.proofs.OneGiven.{gives}
 
 resize-file-requires : tie.Need-resize-file-requires
 resize-file-requires c κs = search needs
@@ -13,7 +13,7 @@ same-length : tie.Need-same-length
 same-length c = search needs
 
 returns : tie.Need-returns
-returns c = told-number (c .before .before .before .resize-file .ensures) (c .number .ensures .0)
+returns c = gives (c .before .before .before .resize-file .ensures) (c .number .ensures .0)
 
 pub lentilraft-resize-file-spec : {M : Type 1} → statement M
 lentilraft-resize-file-spec =

@@ -1,7 +1,7 @@
 use borrow.Author.Needs.{needs}
 use Rattle.rim.proofs.lentilraft_set_limit.Statement.{statement}
 use Rattle.rim.proofs.lentilraft_set_limit.Tie as tie
-use Rattle.types.proofs.Outcomes.{told-number}
+use Rattle.rim.proofs.OneGiven.{gives}
 
 set-limit-requires : tie.Need-set-limit-requires
 set-limit-requires c κs = search needs
@@ -13,7 +13,7 @@ same-length : tie.Need-same-length
 same-length c = search needs
 
 returns : tie.Need-returns
-returns c = told-number (c .before .before .before .set-limit .ensures) (c .number .ensures .0)
+returns c = gives (c .before .before .before .set-limit .ensures) (c .number .ensures .0)
 
 pub lentilraft-set-limit-spec : {M : Type 1} → statement M
 lentilraft-set-limit-spec =

@@ -8,7 +8,7 @@ use Rattle.soundness.proofs.Checked.{true-sound, framed-ready}
 use Rattle.files.specs.Read as Read
 use Rattle.lentilraft.specs.Door.{read}
 use Rattle.lentilraft.proofs.Door.{into-open}
-use Rattle.types.proofs.Outcomes.{told-number, told-value}
+use Rattle.rim.proofs.OneGiven.{gives-count}
 
 read-layout-requires : tie.Need-read-layout-requires
 read-layout-requires c κs = search needs
@@ -30,7 +30,7 @@ same-length c = search needs
 returns : tie.Need-returns
 unfolding read
 returns c =
-    let e = (into-open (now (c .before .before .before .before .before .before .before .before .before .args .volume)) (now (c .before .before .before .before .before .before .before .before .before .args .buffer)) (Read.read (c .before .before .before .before .before .before .before .before .before .args .node) (c .before .before .before .before .before .before .before .before .before .args .offset)) (true-sound (now (c .before .before .before .before .before .before .before .before .before .args .volume)) (c .before .before .before .before .before .before .before .before .before .pre)) (c .before .before .before .before .read .ensures)) in (told-number e (c .number .ensures .0) .0, told-number e (c .number .ensures .0) .1, told-value e (c .before .value .ensures))
+    gives-count (into-open (now (c .before .before .before .before .before .before .before .before .before .args .volume)) (now (c .before .before .before .before .before .before .before .before .before .args .buffer)) (Read.read (c .before .before .before .before .before .before .before .before .before .args .node) (c .before .before .before .before .before .before .before .before .before .args .offset)) (true-sound (now (c .before .before .before .before .before .before .before .before .before .args .volume)) (c .before .before .before .before .before .before .before .before .before .pre)) (c .before .before .before .before .read .ensures)) (c .number .ensures .0) (c .before .value .ensures)
 
 pub unchecked-read-spec : {M : Type 1} → statement M
 unchecked-read-spec =
