@@ -108,9 +108,6 @@ withBytes bs s = record { chunkRoom = s .chunkRoom; allocator = s .allocator; ch
 
 -- ---- one half changed
 
-abbrev pub withNames : Names → Volume → Volume
-withNames a v = record { names = a; store = v .store }
-
 abbrev pub withStore : Store → Volume → Volume
 withStore s v = record { names = v .names; store = s }
 
