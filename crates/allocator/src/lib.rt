@@ -32,10 +32,10 @@ pub enum Popped {
 }
 
 // Whether a chunk size is one of those offered.
-pub fn accepted(size: u64) -> bool
-    ensures { λ r. ⌜ r ≡ acceptedSize size ⌝ }
+pub fn accepted(span: u64) -> bool
+    ensures { λ r. ⌜ r ≡ acceptedSize span ⌝ }
 {
-    match size {
+    match span {
         4096 => true,
         16384 => true,
         65536 => true,
@@ -73,8 +73,8 @@ fn get_next_max_ptr(words: &mut [u8]) -> u64
     ensures { λ r. ⌜ (r ≡ word (now (words .entry)) 24) × (now (words .exit) ≡ over (now (words .entry)) 24 (spell 8 (word (now (words .entry)) 24 + word (now (words .entry)) 8))) ⌝ }
 {
     let next = words::get64(words, MAX_PTR);
-    let size = chunk_size(words);
-    words::put64(words, MAX_PTR, next + size);
+    let span = chunk_size(words);
+    words::put64(words, MAX_PTR, next + span);
     next
 }
 
@@ -123,20 +123,20 @@ pub fn free(words: &mut [u8], pointer: u64)
 }
 
 // The size may change only while no chunk was ever given out.
-pub fn set_chunk_size(words: &mut [u8], size: u64) -> Answer
+pub fn set_chunk_size(words: &mut [u8], span: u64) -> Answer
     requires { ⌜ Formed (now words) ⌝ }
-    ensures { λ r. ⌜ (r ≡ setChunkSize size (readAllocator (now (words .entry))) .answer) × (now (words .exit) ≡ layAllocator (setChunkSize size (readAllocator (now (words .entry))) .after)) ⌝ }
+    ensures { λ r. ⌜ (r ≡ setChunkSize span (readAllocator (now (words .entry))) .answer) × (now (words .exit) ≡ layAllocator (setChunkSize span (readAllocator (now (words .entry))) .after)) ⌝ }
 {
-    if !accepted(size) {
+    if !accepted(span) {
         return Answer::Refused(Error::InvalidArgument);
     }
-    if chunk_size(words) == size {
+    if chunk_size(words) == span {
         return Answer::Done(0);
     }
     if words::get64(words, MAX_PTR) != 0 {
         return Answer::Refused(Error::InvalidArgument);
     }
-    words::put64(words, CHUNK_SIZE, size);
+    words::put64(words, CHUNK_SIZE, span);
     Answer::Done(0)
 }
 

@@ -41,11 +41,11 @@ fn size_meant(words: &[u8]) -> u64
     requires { ⌜ 128 ≤ length (now words) ⌝ }
     ensures { λ r. ⌜ r ≡ sizeMeant (now (words .entry)) ⌝ }
 {
-    let size = words::get64(words, CHUNK_SIZE);
-    if size == 0 {
+    let span = words::get64(words, CHUNK_SIZE);
+    if span == 0 {
         return DEFAULT_CHUNK_SIZE;
     }
-    size
+    span
 }
 
 // Whether the size is unset and no pointer was given out, or is accepted.
@@ -53,32 +53,32 @@ fn is_sized(words: &[u8]) -> bool
     requires { ⌜ 128 ≤ length (now words) ⌝ }
     ensures { λ r. ⌜ r ≡ sized (now (words .entry)) ⌝ }
 {
-    let size = words::get64(words, CHUNK_SIZE);
-    if size == 0 {
+    let span = words::get64(words, CHUNK_SIZE);
+    if span == 0 {
         return words::get64(words, MAX_PTR) == 0;
     }
-    accepted(size)
+    accepted(span)
 }
 
 // Aligned and below word 3.
-pub fn is_lined(size: u64, next: u64, pointer: u64) -> bool
-    requires { ⌜ 0 < size ⌝ }
-    ensures { λ r. ⌜ r ≡ lined size next pointer ⌝ }
+pub fn is_lined(span: u64, next: u64, pointer: u64) -> bool
+    requires { ⌜ 0 < span ⌝ }
+    ensures { λ r. ⌜ r ≡ lined span next pointer ⌝ }
 {
-    if pointer % size != 0 {
+    if pointer % span != 0 {
         return false;
     }
     pointer < next
 }
 
 // Every free pointer is aligned and below word 3.
-pub fn all_lined(words: &[u8], count: usize, size: u64, next: u64) -> bool
-    requires { ⌜ (0 < size) × (128 + 8 * count ≤ length (now words)) ⌝ }
-    ensures { λ r. ⌜ r ≡ upto count (λ i. lined size next (freeWord (now (words .entry)) i)) ⌝ }
+pub fn all_lined(words: &[u8], count: usize, span: u64, next: u64) -> bool
+    requires { ⌜ (0 < span) × (128 + 8 * count ≤ length (now words)) ⌝ }
+    ensures { λ r. ⌜ r ≡ upto count (λ i. lined span next (freeWord (now (words .entry)) i)) ⌝ }
 {
     let mut i = 0;
     while i < count {
-        if !is_lined(size, next, get_ptr(words, i)) {
+        if !is_lined(span, next, get_ptr(words, i)) {
             return false;
         }
         i += 1;
@@ -118,12 +118,12 @@ fn all_apart(words: &[u8], count: usize) -> bool
 }
 
 // Whether word 3 and the free pointers can be of a chunk size.
-fn pointers_good(words: &[u8], size: u64) -> bool
-    requires { ⌜ (128 ≤ length (now words)) × (0 < size) ⌝ }
-    ensures { λ r. ⌜ r ≡ pointersGood (now (words .entry)) size ⌝ }
+fn pointers_good(words: &[u8], span: u64) -> bool
+    requires { ⌜ (128 ≤ length (now words)) × (0 < span) ⌝ }
+    ensures { λ r. ⌜ r ≡ pointersGood (now (words .entry)) span ⌝ }
 {
     let next = words::get64(words, MAX_PTR);
-    if next % size != 0 {
+    if next % span != 0 {
         return false;
     }
     let count = get_len(words);
@@ -131,7 +131,7 @@ fn pointers_good(words: &[u8], size: u64) -> bool
     if (room as u64) < count {
         return false;
     }
-    if !all_lined(words, count as usize, size, next) {
+    if !all_lined(words, count as usize, span, next) {
         return false;
     }
     all_apart(words, count as usize)

@@ -18,22 +18,22 @@ use Rattle.files.proofs.ReadPieces.{area-lent}
 
 module _ (l : List ℕ) (y : Layout) (r : Ready l y) (p : ℕ) {s : ℕ} (size : (s ≡ shown l .store .allocator .chunkSize) × (0 < s) × (s ≤ 65536)) (inside : p + shown l .store .allocator .chunkSize ≤ length (shown l .store .bytes)) where
   -- a chunk ends in the volume
-  pub chunk-ends : y .bytes + p + s ≤ length l
+  pub chunk-ends : y .area + p + s ≤ length l
   chunk-ends = omega (arith, size .0, area-long l y r, rooms l y r)
 
-  bytes-at : y .bytes ≡ atBytes (shown l .names .nodeRoom) (shown l .names .entryRoom) (shown l .store .chunkRoom)
-  bytes-at = ap (λ z. z .bytes) (r .layout)
+  bytes-at : y .area ≡ atBytes (shown l .names .nodeRoom) (shown l .names .entryRoom) (shown l .store .chunkRoom)
+  bytes-at = ap (λ z. z .area) (r .layout)
 
   -- all its bytes written
-  pub chunk-put : (bs : List ℕ) → length bs ≡ s → {ys : List ℕ} → ys ≡ bs → take (y .bytes + p) l ++ (ys ++ drop (y .bytes + p + s - (y .bytes + p)) (drop (y .bytes + p) l)) ≡ laid (onStore (withBytes (over (shown l .store .bytes) p bs)) (shown l))
+  pub chunk-put : (bs : List ℕ) → length bs ≡ s → {ys : List ℕ} → ys ≡ bs → take (y .area + p) l ++ (ys ++ drop (y .area + p + s - (y .area + p)) (drop (y .area + p) l)) ≡ laid (onStore (withBytes (over (shown l .store .bytes) p bs)) (shown l))
   chunk-put bs n {ys} e =
-      let w : y .bytes + p ≡ atBytes (shown l .names .nodeRoom) (shown l .names .entryRoom) (shown l .store .chunkRoom) + p = omega (arith, bytes-at) in
-      lent-at l (y .bytes + p) s ys bs e n
-      ∙ onto (laid (shown l)) (y .bytes + p) bs (sym (r .formed .same)) refl (write-bytes (shown l) (spaced (shown l) (r .formed .fits)) p (y .bytes + p) bs (omega (arith, size .0)) w)
+      let w : y .area + p ≡ atBytes (shown l .names .nodeRoom) (shown l .names .entryRoom) (shown l .store .chunkRoom) + p = omega (arith, bytes-at) in
+      lent-at l (y .area + p) s ys bs e n
+      ∙ onto (laid (shown l)) (y .area + p) bs (sym (r .formed .same)) refl (write-bytes (shown l) (spaced (shown l) (r .formed .fits)) p (y .area + p) bs (omega (arith, size .0)) w)
 
   -- bytes written at a place of it
-  pub piece-put : (place : ℕ) (bs : List ℕ) → place + length bs ≤ shown l .store .allocator .chunkSize → {ys : List ℕ} → ys ≡ over (take (y .bytes + p + s - (y .bytes + p)) (drop (y .bytes + p) l)) place bs
-      → take (y .bytes + p) l ++ (ys ++ drop (y .bytes + p + s - (y .bytes + p)) (drop (y .bytes + p) l)) ≡ laid (onStore (withBytes (over (shown l .store .bytes) (p + place) bs)) (shown l))
+  pub piece-put : (place : ℕ) (bs : List ℕ) → place + length bs ≤ shown l .store .allocator .chunkSize → {ys : List ℕ} → ys ≡ over (take (y .area + p + s - (y .area + p)) (drop (y .area + p) l)) place bs
+      → take (y .area + p) l ++ (ys ++ drop (y .area + p + s - (y .area + p)) (drop (y .area + p) l)) ≡ laid (onStore (withBytes (over (shown l .store .bytes) (p + place) bs)) (shown l))
   piece-put place bs h {ys} e =
       let q = part (shown l .store .bytes) p s in
       let n : length q ≡ s = length-part (shown l .store .bytes) p s (omega (arith, size .0)) in
@@ -43,8 +43,8 @@ module _ (l : List ℕ) (y : Layout) (r : Ready l y) (p : ℕ) {s : ℕ} (size :
       ∙ ap (λ (x : List ℕ). laid (onStore (withBytes x) (shown l))) (part-written (shown l .store .bytes) p s place bs (omega (arith, size .0)) k)
 
   -- zeros from a place of it to its end
-  pub rest-cleared : (place : ℕ) → place ≤ shown l .store .allocator .chunkSize → {ys : List ℕ} → ys ≡ over (take (y .bytes + p + s - (y .bytes + p)) (drop (y .bytes + p) l)) place (zeros (s - place))
-      → take (y .bytes + p) l ++ (ys ++ drop (y .bytes + p + s - (y .bytes + p)) (drop (y .bytes + p) l)) ≡ laid (onStore (withBytes (over (shown l .store .bytes) (p + place) (zeros (shown l .store .allocator .chunkSize - place)))) (shown l))
+  pub rest-cleared : (place : ℕ) → place ≤ shown l .store .allocator .chunkSize → {ys : List ℕ} → ys ≡ over (take (y .area + p + s - (y .area + p)) (drop (y .area + p) l)) place (zeros (s - place))
+      → take (y .area + p) l ++ (ys ++ drop (y .area + p + s - (y .area + p)) (drop (y .area + p) l)) ≡ laid (onStore (withBytes (over (shown l .store .bytes) (p + place) (zeros (shown l .store .allocator .chunkSize - place)))) (shown l))
   rest-cleared place h e =
       piece-put place (zeros (shown l .store .allocator .chunkSize - place)) (omega (arith, length-zeros (shown l .store .allocator .chunkSize - place)))
-      (e ∙ ap (λ (x : ℕ). over (take (y .bytes + p + s - (y .bytes + p)) (drop (y .bytes + p) l)) place (zeros (x - place))) (size .0))
+      (e ∙ ap (λ (x : ℕ). over (take (y .area + p + s - (y .area + p)) (drop (y .area + p) l)) place (zeros (x - place))) (size .0))

@@ -31,14 +31,14 @@ use Rattle.tables.proofs.StoredRows.{row-inside}
 use Rattle.files.specs.Files.{IsSpan}
 
 -- a part of the chunk area is a part of the volume
-pub area-part : (l : List ℕ) (y : Layout) → Ready l y → (at n : ℕ) → part l (y .bytes + at) n ≡ part (shown l .store .bytes) at n
+pub area-part : (l : List ℕ) (y : Layout) → Ready l y → (at n : ℕ) → part l (y .area + at) n ≡ part (shown l .store .bytes) at n
 unfolding part shown
-area-part l y r at n = rw (rooms l y r .bytes, drop-drop at (atBytes (word l 8) (word l 16) (word l 24)) l)
+area-part l y r at n = rw (rooms l y r .area, drop-drop at (atBytes (word l 8) (word l 16) (word l 24)) l)
 
 -- and so it is when it is lent
-pub area-lent : (l : List ℕ) (y : Layout) → Ready l y → (at n : ℕ) → take (y .bytes + at + n - (y .bytes + at)) (drop (y .bytes + at) l) ≡ part (shown l .store .bytes) at n
+pub area-lent : (l : List ℕ) (y : Layout) → Ready l y → (at n : ℕ) → take (y .area + at + n - (y .area + at)) (drop (y .area + at) l) ≡ part (shown l .store .bytes) at n
 area-lent l y r at n =
-    let w : y .bytes + at + n - (y .bytes + at) ≡ n = omega arith in
+    let w : y .area + at + n - (y .area + at) ≡ n = omega arith in
     rw w (unfold part in area-part l y r at n)
 
 module _ (l : List ℕ) (y : Layout) (r : Ready l y) (st : Workable (shown l .store)) (n j p : ℕ) (e : p ≡ lead (chunkUnder n (j / shown l .store .allocator .chunkSize)) (shown l .store .chunks)) {s : ℕ}
@@ -74,10 +74,10 @@ module _ (l : List ℕ) (y : Layout) (r : Ready l y) (st : Workable (shown l .st
       there = rw row (omega (arith, row-inside (shown l .store) (st .stored) (st .size) p row-there, mod-lt j pos))
 
       -- where the bytes end in the volume
-      pub row-ends : y .bytes + (c .pointer + j % s) + length out ≤ length l
+      pub row-ends : y .area + (c .pointer + j % s) + length out ≤ length l
       row-ends = rw (size .0) (omega (arith, there, area-long l y r, rooms l y r))
 
-      pub row-read : {m : List ℕ} → m ≡ over out 0 (take (y .bytes + (c .pointer + j % s) + length out - (y .bytes + (c .pointer + j % s))) (drop (y .bytes + (c .pointer + j % s)) l))
+      pub row-read : {m : List ℕ} → m ≡ over out 0 (take (y .area + (c .pointer + j % s) + length out - (y .area + (c .pointer + j % s))) (drop (y .area + (c .pointer + j % s)) l))
           → (m ≡ bytesFrom (shown l .store) n j (length out)) × (p + 1 ≡ lead (chunkUnder n (j / S + 1)) cs)
       row-read {m} em =
           let q : m ≡ over out 0 (part (shown l .store .bytes) (c .pointer + j % S) (length out)) =

@@ -84,16 +84,16 @@ module _ (l : List ℕ) (y : Layout) (r : Ready l y) (st : Workable (shown l .st
       inside₂ = rw (shown₂, allocate-rest (v .store .allocator) .size, got .0) (given-inside (v .store) st some-room)
 
       -- the chunk ends in the volume
-      pub taken-ends : y .bytes + p + s ≤ length o
+      pub taken-ends : y .area + p + s ≤ length o
       taken-ends = chunk-ends o y ready₂ p size₂ inside₂
 
       -- it is as long as the part that is lent
-      pub taken-lent : length (take (y .bytes + p + s - (y .bytes + p)) (drop (y .bytes + p) o)) ≡ S
-      taken-lent = length-lent o (y .bytes + p) s taken-ends ∙ size .0
+      pub taken-lent : length (take (y .area + p + s - (y .area + p)) (drop (y .area + p) o)) ≡ S
+      taken-lent = length-lent o (y .area + p) s taken-ends ∙ size .0
 
       -- filled
-      pub taken-filled : (at : ℕ) (bs : List ℕ) → at + length bs ≤ S → {ys : List ℕ} → ys ≡ over (zeros (length (take (y .bytes + p + s - (y .bytes + p)) (drop (y .bytes + p) o)))) at bs
-          → take (y .bytes + p) o ++ (ys ++ drop (y .bytes + p + s - (y .bytes + p)) (drop (y .bytes + p) o)) ≡ laid (onStore (withBytes (over (taken n k (v .store) .bytes) (allocate (v .store .allocator) .pointer + at) bs)) (onStore (taken n k) v))
+      pub taken-filled : (at : ℕ) (bs : List ℕ) → at + length bs ≤ S → {ys : List ℕ} → ys ≡ over (zeros (length (take (y .area + p + s - (y .area + p)) (drop (y .area + p) o)))) at bs
+          → take (y .area + p) o ++ (ys ++ drop (y .area + p + s - (y .area + p)) (drop (y .area + p) o)) ≡ laid (onStore (withBytes (over (taken n k (v .store) .bytes) (allocate (v .store .allocator) .pointer + at) bs)) (onStore (taken n k) v))
       unfolding taken
       taken-filled at bs h {ys} e =
           let g = allocate (v .store .allocator) .pointer in

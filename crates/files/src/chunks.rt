@@ -75,7 +75,7 @@ pub fn take_chunk(
         },
     );
     let whole = span as usize;
-    let at = layout.bytes + pointer as usize;
+    let at = layout.area + pointer as usize;
     fill_chunk(&mut volume[at..at + whole], from, bytes);
 }
 
@@ -92,7 +92,7 @@ pub fn put_piece(
     ensures { λ _. ⌜ now (volume .exit) ≡ laid (onStore (withBytes (over (shown (now (volume .entry)) .store .bytes) (pointer + from) (now (bytes .entry)))) (shown (now (volume .entry)))) ⌝ }
 {
     let whole = span as usize;
-    let at = layout.bytes + pointer as usize;
+    let at = layout.area + pointer as usize;
     words::copy(&mut volume[at..at + whole], from, bytes);
 }
 
@@ -102,6 +102,6 @@ pub fn clear_rest(volume: &mut [u8], layout: Layout, span: u64, pointer: u64, fr
     ensures { λ _. ⌜ now (volume .exit) ≡ laid (onStore (withBytes (over (shown (now (volume .entry)) .store .bytes) (pointer + from) (zeros (shown (now (volume .entry)) .store .allocator .chunkSize - from)))) (shown (now (volume .entry)))) ⌝ }
 {
     let whole = span as usize;
-    let at = layout.bytes + pointer as usize;
+    let at = layout.area + pointer as usize;
     words::clear(&mut volume[at..at + whole], from, whole - from);
 }

@@ -51,7 +51,7 @@ fn read_piece(
         return place;
     }
     let chunk = tables::chunk_row(volume, layout, place);
-    let from = layout.bytes + (chunk.pointer + offset % span) as usize;
+    let from = layout.area + (chunk.pointer + offset % span) as usize;
     words::copy(out, 0, &volume[from..from + whole]);
     place + 1
 }

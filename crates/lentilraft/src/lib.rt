@@ -25,13 +25,13 @@ pub fn check(volume: &[u8]) -> Answer
 }
 
 // Sets the chunk size; another one only if no pointer was ever given out.
-pub fn set_chunk_size(volume: &mut [u8], size: u64) -> Answer
-    ensures { λ r. ⌜ outcome r (now (volume .exit)) ≡ setChunkSize size (now (volume .entry)) ⌝ }
+pub fn set_chunk_size(volume: &mut [u8], span: u64) -> Answer
+    ensures { λ r. ⌜ outcome r (now (volume .exit)) ≡ setChunkSize span (now (volume .entry)) ⌝ }
 {
     let Place::At(layout) = soundness::open(volume) else {
         return Answer::Refused(Error::UnsoundMemory);
     };
-    tables::set_chunk_size(volume, layout, size)
+    tables::set_chunk_size(volume, layout, span)
 }
 
 // Puts the report's text at the front of the output, and answers its length.

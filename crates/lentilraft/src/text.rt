@@ -56,13 +56,13 @@ fn put_line(out: &mut [u8], at: usize, key: &[u8], n: u64) -> usize
 }
 
 // The form, the chunk size and its exponent.
-fn put_sizes(out: &mut [u8], size: u64) -> usize
+fn put_sizes(out: &mut [u8], span: u64) -> usize
     requires { ⌜ 512 ≤ length (now out) ⌝ }
-    ensures { λ r. ⌜ (r ≡ length (sizeLines size)) × (r ≤ 93) × (now (out .exit) ≡ over (now (out .entry)) 0 (sizeLines size)) ⌝ }
+    ensures { λ r. ⌜ (r ≡ length (sizeLines span)) × (r ≤ 93) × (now (out .exit) ≡ over (now (out .entry)) 0 (sizeLines span)) ⌝ }
 {
     let a = put_line(out, 0, b"format=", volume::FORM);
-    let b = put_line(out, a, b"chunk_size=", size);
-    put_line(out, b, b"chunk_shift=", u64::trailing_zeros(size) as u64)
+    let b = put_line(out, a, b"chunk_size=", span);
+    put_line(out, b, b"chunk_shift=", u64::trailing_zeros(span) as u64)
 }
 
 // The rows in use of each table.

@@ -1,6 +1,6 @@
 -- What the whole check means: it accepts exactly what is sound.
 -- Assumes nothing.
-use mathlib.Core.Path.{_≡_, refl, sym, ap, _∙_}
+use mathlib.Core.Path.{_≡_, ap}
 use mathlib.Core.Bool.{Bool, true, false}
 use mathlib.Core.List.{List}
 use Prim.Native.Nat.{ℕ, _+_, _*_, _<_}
@@ -10,17 +10,18 @@ use denote.Enum.Declared.{tagOf}
 use Rattle.words.specs.Bytes.{word, Bytes}
 use Rattle.words.specs.Tables.{Asc}
 use Rattle.words.proofs.Numbers.{num-part}
-use Rattle.words.proofs.Rules.{Says, says-map, says-both, says-and, says-true, true-says, pick-true, pick-false}
+use Rattle.words.proofs.Rules.{Says, says-map, says-both, says-and, says-true, true-says}
 use Rattle.allocator.specs.Allocator.{free, readAllocator}
 use Rattle.allocator.proofs.Sizes.{accepted-bounds}
 use Rattle.volume.specs.declared.Layout.{Layout}
 use Rattle.volume.specs.declared.Place.{Place}
-use Rattle.volume.specs.declared.Place.the-variants.{At, Nowhere}
+use Rattle.volume.specs.declared.Place.the-variants.{At}
 use Rattle.volume.specs.Volume.{Names, Store, Volume, shown}
-use Rattle.volume.specs.Geometry.{layoutOf}
+use Rattle.volume.specs.Geometry.{layoutIn}
 use Rattle.volume.specs.Framed.{Framed}
 use Rattle.volume.specs.Sound.{nodeBefore, entryBefore, Named, Stored, Good, Sound}
 use Rattle.volume.proofs.Place.{the-type}
+use Rattle.volume.proofs.GeometryRules.{place-fails, place-passes, place-layout}
 use Rattle.volume.proofs.Laid.{framed-formed}
 use Rattle.tables.specs.Tables.{Ready}
 use Rattle.soundness.specs.Checked.{ordered, numbered, related, named, stored, good, sound, opened}
@@ -92,40 +93,19 @@ true-sound l s = true-says (says-sound l) s
 
 -- ---- what the calls behind the check have of it
 
-pub framed-ready : (l : List ℕ) → Bytes l → Framed l → {y : Layout} → y ≡ layoutOf (word l 8) (word l 16) (word l 24) → Ready l y
+pub framed-ready : (l : List ℕ) → Bytes l → Framed l → {y : Layout} → y ≡ layoutIn l → Ready l y
 framed-ready l b f e = record { formed = framed-formed l b f; layout = unfold shown in e }
 
-module _ (l : List ℕ) where
-  pub opens-nowhere : sound l ≡ false → Nowhere ≡ opened l
-  unfolding opened
-  opens-nowhere e = pick-false _ _ _ _ e refl
+-- a place that was given says whether the memory is sound, and where its areas start
+module _ (l : List ℕ) {r : Place} (h : r ≡ opened l) where
+  pub not-opened : tagOf the-type r ≡ 1 → sound l ≡ false
+  not-opened t = place-fails (sound l) (layoutIn l) h t
 
-  pub opens-at : {y : Layout} → sound l ≡ true → y ≡ layoutOf (word l 8) (word l 16) (word l 24) → At y ≡ opened l
-  unfolding opened
-  opens-at e h = pick-true _ _ _ _ e (ap At h)
+  pub opened-sound : tagOf the-type r ≡ 0 → sound l ≡ true
+  opened-sound t = place-passes (sound l) (layoutIn l) h t
 
-  -- a place that was given says whether the memory is sound, and where its areas start
-  module _ {r : Place} (h : r ≡ opened l) where
-    pub not-opened : tagOf the-type r ≡ 1 → sound l ≡ false
-    not-opened t = go (sound l) refl
-      where
-        go : (b : Bool) → sound l ≡ b → sound l ≡ false
-        go true q = let e : tagOf the-type r ≡ 0 = ap (tagOf the-type) (h ∙ sym (opens-at q refl)) in absurd (omega arith)
-        go false q = q
+  pub opened-good : tagOf the-type r ≡ 0 → Good (shown l)
+  opened-good t = sound-true l (opened-sound t) .good
 
-    pub opened-sound : tagOf the-type r ≡ 0 → sound l ≡ true
-    opened-sound t = go (sound l) refl
-      where
-        go : (b : Bool) → sound l ≡ b → sound l ≡ true
-        go true q = q
-        go false q = let e : tagOf the-type r ≡ 1 = ap (tagOf the-type) (h ∙ sym (opens-nowhere q)) in absurd (omega arith)
-
-    pub opened-good : tagOf the-type r ≡ 0 → Good (shown l)
-    opened-good t = sound-true l (opened-sound t) .good
-
-    pub opened-ready : {y : Layout} → r ≡ At y → Bytes l → Ready l y
-    opened-ready {y} k b =
-        let q = opened-sound (ap (tagOf the-type) k) in
-        let a = opens-at q refl in
-        let e : y ≡ layoutOf (word l 8) (word l 16) (word l 24) = cc in
-        framed-ready l b (sound-true l q .framed) e
+  pub opened-ready : {y : Layout} → r ≡ At y → Bytes l → Ready l y
+  opened-ready {y} k b = framed-ready l b (sound-true l (opened-sound (ap (tagOf the-type) k)) .framed) (place-layout (sound l) (layoutIn l) h k)

@@ -1,32 +1,30 @@
 -- Laws of the frame: the test says whether bytes are framed, and what its code finds.
 -- Assumes nothing.
-use mathlib.Core.Path.{_≡_, ap, _∙_}
+use mathlib.Core.Path.{_≡_, refl, sym, ap, _∙_}
 use mathlib.Core.Bool.{Bool, true, false}
 use mathlib.Core.List.{List}
 use Prim.Native.Nat.{ℕ, _+_, _-_, _*_, _/_, _≤_, _<_}
 use native.Mathlib.Omega.{arith}
 use lib.ListN.{length, take, drop}
+use lib.Dec.{eqb, leb}
 use Rattle.words.specs.Bytes.{word, part}
-use Rattle.words.specs.Rules.{allZero}
+use Rattle.words.specs.Rules.{both, allZero}
 use Rattle.words.proofs.Parts.{length-part}
 use Rattle.words.proofs.Numbers.{num-part}
-use Rattle.words.proofs.Joined.{upto-all}
+use Rattle.words.proofs.Joined.{both-false, upto-all}
 use Rattle.words.proofs.Rules.{Says, holds, says-map, says-both, says-and, says-upto, says-eqb, says-leb, says-itself, says-true, go-on}
 use Rattle.words.proofs.Blocks.{says-zeros}
 use Rattle.allocator.specs.Sizes.{acceptedSize}
 use Rattle.allocator.specs.Allocator.{marker}
 use Rattle.allocator.specs.Words.{wellMarked}
 use Rattle.volume.specs.Volume.{form, atNodes, atEntries, atChunks}
-use denote.Enum.Declared.{tagOf}
 use Rattle.volume.specs.declared.Place.{Place}
-use Rattle.volume.specs.declared.Place.the-variants.{At, Nowhere}
 use Rattle.volume.specs.declared.Layout.{Layout}
-use Rattle.volume.specs.Geometry.{layoutOf, placed, placeOf}
+use Rattle.volume.specs.Geometry.{layoutIn, placed, placeIf, placeOf}
 use Rattle.volume.specs.Framed.{Headed, Marked, NodeFormed, EntryFormed, RowsFormed, Framed}
-use Rattle.volume.proofs.Place.{the-type}
 use Rattle.volume.specs.RowTests.{nodeFormed, entryFormed}
 use Rattle.volume.proofs.RowTests.{says-node, says-entry}
-use Rattle.volume.proofs.GeometryRules.{says-placed, not-placed, is-placed}
+use Rattle.volume.proofs.GeometryRules.{says-placed}
 use Rattle.soundness.specs.FrameRules.{headed, marked, rowsFormed, formed, framed}
 
 -- ---- the tests mean what the records say
@@ -69,17 +67,21 @@ headed-true l e = says-true (says-headed l) e
 
 -- ---- what the code finds
 
--- rooms that a header holds, and the place that they give
-module _ (l : List ℕ) {n e c : ℕ} (p : n ≡ word l 8) (q : e ≡ word l 16) (t : c ≡ word l 24) (r : Place) where
-  pub placed-no : tagOf the-type r ≡ 1 → r ≡ placeOf n e c (length l) → placed (word l 8) (word l 16) (word l 24) (length l) ≡ false
-  placed-no k h = rw (← p, ← q, ← t) (not-placed n e c (length l) r k h)
+-- used counts that do not fit, wherever the tables stand
+pub counts-over : (a b : Bool) → b ≡ false → false ≡ both a b
+counts-over a b e = rw e (sym (both-false a))
 
-  pub placed-yes : tagOf the-type r ≡ 0 → r ≡ placeOf n e c (length l) → placed (word l 8) (word l 16) (word l 24) (length l) ≡ true
-  placed-yes k h = rw (← p, ← q, ← t) (go r k h)
-    where
-      go : (s : Place) → tagOf the-type s ≡ 0 → s ≡ placeOf n e c (length l) → placed n e c (length l) ≡ true
-      go (At y) k h = is-placed n e c (length l) h .0
-      go Nowhere k h = absurd (omega arith)
+-- the place that a header's rooms give, where the rest of it holds
+pub header-place : (l : List ℕ) {n e c : ℕ} {r : Place} → leb 64 (length l) ≡ true → eqb (word l 0) form ≡ true → n ≡ word l 8 → e ≡ word l 16 → c ≡ word l 24 → r ≡ placeOf n e c (length l)
+    → true ≡ both (leb (word l 32) (word l 8)) (both (leb (word l 40) (word l 16)) (leb (word l 48) (word l 24))) → r ≡ placeIf (headed l) (layoutIn l)
+unfolding headed
+header-place l a f p q t h k =
+    let x : placed (word l 8) (word l 16) (word l 24) (length l) ≡ headed l = go-on _ _ a (go-on _ _ f (both-yes _ _ (sym k))) in
+    h ∙ rw (p, q, t) (ap (λ b. placeIf b (layoutIn l)) x)
+  where
+    both-yes : (a b : Bool) → b ≡ true → a ≡ both a b
+    both-yes true b e = unfold both in sym e
+    both-yes false b e = unfold both in refl
 
 pub any-rows : (s : ℕ) (l : List ℕ) (at used room : ℕ) {r : Bool} → r ≡ allZero (part l (at + s * used) (s * (room - used))) → r ≡ rowsFormed (λ _. true) s l at used room
 unfolding rowsFormed
@@ -90,7 +92,7 @@ pub rows-at : (row : ℕ → Bool) (s : ℕ) (l : List ℕ) {at used room a u m 
 rows-at row s l p q t e = e ∙ rw (p, q, t)
 
 -- the allocator's words, lent as a part of the volume
-pub marked-lent : (l : List ℕ) → Headed l → {y : Layout} {r : Bool} → y ≡ layoutOf (word l 8) (word l 16) (word l 24) → r ≡ wellMarked (take (y .nodes - 64) (drop 64 l)) → r ≡ marked l
+pub marked-lent : (l : List ℕ) → Headed l → {y : Layout} {r : Bool} → y ≡ layoutIn l → r ≡ wellMarked (take (y .nodes - 64) (drop 64 l)) → r ≡ marked l
 unfolding marked wellMarked part
 marked-lent l h {y} e q =
     let k : y .nodes - 64 ≡ 128 + 8 * word l 24 = omega (arith, ap (λ z. z .nodes) e) in

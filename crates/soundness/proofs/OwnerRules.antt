@@ -41,13 +41,13 @@ use Rattle.soundness.specs.OwnerRules.{tailZero, ownedBy, ownedWhere, ch
 
 -- the byte area, behind the tables
 module _ (l : List ℕ) (y : Layout) (r : Ready l y) where
-  pub chunk-inside : (p s : ℕ) → p + s ≤ length (shown l .store .bytes) → y .bytes + p + s ≤ length l
+  pub chunk-inside : (p s : ℕ) → p + s ≤ length (shown l .store .bytes) → y .area + p + s ≤ length l
   chunk-inside p s h = omega (arith, count-bytes l, rooms l y r)
 
   -- a part that was lent of it
-  pub tail-lent : (p n : ℕ) {at : ℕ} {b : Bool} → at ≡ y .bytes + p → b ≡ allZero (take (at + n - at) (drop at l)) → b ≡ allZero (part (shown l .store .bytes) p n)
+  pub tail-lent : (p n : ℕ) {at : ℕ} {b : Bool} → at ≡ y .area + p → b ≡ allZero (take (at + n - at) (drop at l)) → b ≡ allZero (part (shown l .store .bytes) p n)
   unfolding shown part
-  tail-lent p n {at} e q = zero-part l at n q ∙ rw (e, rooms l y r .bytes, drop-drop p)
+  tail-lent p n {at} e q = zero-part l at n q ∙ rw (e, rooms l y r .area, drop-drop p)
 
   -- a chunk of a row lies in it
   pub row-chunk-inside : Stored (shown l .store) → (i : ℕ) → i < length (shown l .store .chunks) → Inside (shown l .store) (chunkAt (shown l .store .chunks) i)

@@ -5,13 +5,11 @@ use Prim.Native.Nat.{ℕ}
 use mathlib.Core.Bool.{Bool}
 use mathlib.Core.List.{List}
 use lib.ListN.{length}
-use Rattle.words.specs.Bytes.{word}
-use Rattle.words.specs.Rules.{both, pick}
+use Rattle.words.specs.Rules.{both}
 use Rattle.allocator.specs.Allocator.{free}
 use Rattle.volume.specs.declared.Place.{Place}
-use Rattle.volume.specs.declared.Place.the-variants.{At, Nowhere}
 use Rattle.volume.specs.Volume.{Names, Store, Volume, shown}
-use Rattle.volume.specs.Geometry.{layoutOf}
+use Rattle.volume.specs.Geometry.{layoutIn, placeIf}
 use Rattle.soundness.specs.FrameRules.{framed}
 use Rattle.soundness.specs.OrderRules.{nodesAscend, entriesAscend, chunksAscend, indexed, nodesBelow, rooted, rootUnnamed, namesAllowed}
 use Rattle.soundness.specs.EntryRules.{parentsGood, targetsFound, namesOnce}
@@ -54,5 +52,5 @@ unfoldable pub sound : List ℕ → Bool
 sound l = both (framed l) (good (shown l))
 
 -- where the areas of a sound memory start
-unfoldable pub opened : List ℕ → Place
-opened l = pick (sound l) (At (layoutOf (word l 8) (word l 16) (word l 24))) Nowhere
+abbrev pub opened : List ℕ → Place
+opened l = placeIf (sound l) (layoutIn l)

@@ -3,7 +3,7 @@ use crate::entries::names_once;
 use crate::entries::parents_good;
 use crate::entries::targets_found;
 use crate::frame::is_formed;
-use crate::frame::is_headed;
+use crate::frame::read_header;
 use crate::nodes::nodes_good;
 use crate::order::chunks_ascend;
 use crate::order::entries_ascend;
@@ -123,10 +123,9 @@ fn is_good(volume: &[u8], layout: Layout) -> bool
 pub fn open(volume: &[u8]) -> Place
     ensures { λ r. ⌜ r ≡ opened (now (volume .entry)) ⌝ }
 {
-    if !is_headed(volume) {
+    let Place::At(layout) = read_header(volume) else {
         return Place::Nowhere;
-    }
-    let layout = volume::read_layout(volume);
+    };
     if !is_formed(volume, layout) {
         return Place::Nowhere;
     }

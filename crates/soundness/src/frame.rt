@@ -5,9 +5,8 @@ ghost use mathlib.Core.Path.{_≡_};
 ghost use mathlib.Core.Bool.{true};
 ghost use Prim.Native.Nat.{_+_, _*_, _≤_};
 ghost use lib.ListN.{length};
-ghost use Rattle.words.specs.Bytes.{word};
 ghost use Rattle.words.specs.Rules.{upto};
-ghost use Rattle.volume.specs.Geometry.{layoutOf};
+ghost use Rattle.volume.specs.Geometry.{layoutIn, placeIf};
 ghost use Rattle.volume.specs.Framed.{Headed};
 ghost use Rattle.volume.specs.RowTests.{nodeFormed, entryFormed};
 ghost use Rattle.soundness.specs.FrameRules.{headed, marked, rowsFormed, formed};
@@ -15,36 +14,36 @@ ghost use Rattle.soundness.specs.FrameRules.{headed, marked, rowsFormed,
 // The header's bytes: the allocator's words stand behind it.
 const HEADER: usize = volume::ALLOCATOR;
 
-// Whether the header has the form, a geometry that fits the length, and used counts that fit the rooms.
-pub fn is_headed(volume: &[u8]) -> bool
-    ensures { λ r. ⌜ r ≡ headed (now (volume .entry)) ⌝ }
+// Where the areas start, if the header has the form, a geometry that fits the length, and used counts that fit the rooms.
+pub fn read_header(volume: &[u8]) -> Place
+    ensures { λ r. ⌜ r ≡ placeIf (headed (now (volume .entry))) (layoutIn (now (volume .entry))) ⌝ }
 {
     if volume.len() < HEADER {
-        return false;
+        return Place::Nowhere;
     }
     if words::get64(volume, 0) != volume::FORM {
-        return false;
+        return Place::Nowhere;
     }
     let nodes = words::get64(volume, volume::NODE_ROOM);
     let entries = words::get64(volume, volume::ENTRY_ROOM);
     let chunks = words::get64(volume, volume::CHUNK_ROOM);
     let place = volume::place_tables(nodes, entries, chunks, volume.len() as u64);
-    let Place::At(_) = place else {
-        return false;
-    };
     if nodes < words::get64(volume, volume::NODES_USED) {
-        return false;
+        return Place::Nowhere;
     }
     if entries < words::get64(volume, volume::ENTRIES_USED) {
-        return false;
+        return Place::Nowhere;
     }
-    words::get64(volume, volume::CHUNKS_USED) <= chunks
+    if chunks < words::get64(volume, volume::CHUNKS_USED) {
+        return Place::Nowhere;
+    }
+    place
 }
 
 // Whether the allocator's words have the marker, an accepted chunk size and a free count that fits. They are a part of the volume that
 // starts in its middle: they end where the node rows begin.
 fn is_marked(volume: &[u8], layout: Layout) -> bool
-    requires { ⌜ Headed (now volume) × (layout ≡ layoutOf (word (now volume) 8) (word (now volume) 16) (word (now volume) 24)) ⌝ }
+    requires { ⌜ Headed (now volume) × (layout ≡ layoutIn (now volume)) ⌝ }
     ensures { λ r. ⌜ r ≡ marked (now (volume .entry)) ⌝ }
 {
     let end = layout.nodes;
@@ -119,7 +118,7 @@ fn chunks_formed(volume: &[u8], base: usize, used: usize, room: usize) -> bool
 
 // Whether the allocator's words and the rows of each table have their form.
 pub fn is_formed(volume: &[u8], layout: Layout) -> bool
-    requires { ⌜ Headed (now volume) × (layout ≡ layoutOf (word (now volume) 8) (word (now volume) 16) (word (now volume) 24)) ⌝ }
+    requires { ⌜ Headed (now volume) × (layout ≡ layoutIn (now volume)) ⌝ }
     ensures { λ r. ⌜ r ≡ formed (now (volume .entry)) ⌝ }
 {
     if !is_marked(volume, layout) {

@@ -21,7 +21,7 @@ fn tail_zero(volume: &[u8], layout: Layout, span: u64, row: ChunkRow, size: u64)
         return true;
     }
     let used = size % span;
-    let from = layout.bytes + (row.pointer + used) as usize;
+    let from = layout.area + (row.pointer + used) as usize;
     let rest = (span - used) as usize;
     words::is_zero(&volume[from..from + rest])
 }

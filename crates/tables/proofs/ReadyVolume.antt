@@ -21,7 +21,7 @@ pub record Rooms (l : List ℕ) (y : Layout) : Type 0 where
   pub nodes : y .nodes ≡ 192 + 8 * word l 24
   pub entries : y .entries ≡ 192 + 8 * word l 24 + 40 * word l 8
   pub chunks : y .chunks ≡ 192 + 8 * word l 24 + 40 * word l 8 + 280 * word l 16
-  pub bytes : y .bytes ≡ 192 + 8 * word l 24 + 40 * word l 8 + 280 * word l 16 + 24 * word l 24
+  pub area : y .area ≡ 192 + 8 * word l 24 + 40 * word l 8 + 280 * word l 16 + 24 * word l 24
   pub long : 192 + 8 * word l 24 + 40 * word l 8 + 280 * word l 16 + 24 * word l 24 + 65536 ≤ length l
   pub nodeRoom : word l 8 ≤ 4096
   pub entryRoom : word l 16 ≤ 4096
@@ -57,7 +57,7 @@ module _ (l : List ℕ) where
           nodes = ap (λ z. z .nodes) (r .layout);
           entries = ap (λ z. z .entries) (r .layout);
           chunks = ap (λ z. z .chunks) (r .layout);
-          bytes = ap (λ z. z .bytes) (r .layout);
+          area = ap (λ z. z .area) (r .layout);
           long = omega (arith, f .store .long);
           nodeRoom = f .names .nodeRoom .1;
           entryRoom = f .names .entryRoom .1;
@@ -75,9 +75,9 @@ name-there l y r i h =
 
 -- ---- the chunk area
 
-pub area-long : (l : List ℕ) (y : Layout) (r : Ready l y) → length l - y .bytes ≡ length (shown l .store .bytes)
+pub area-long : (l : List ℕ) (y : Layout) (r : Ready l y) → length l - y .area ≡ length (shown l .store .bytes)
 unfolding shown
-area-long l y r = rw (rooms l y r .bytes) (sym (length-drop (atBytes (word l 8) (word l 16) (word l 24)) l))
+area-long l y r = rw (rooms l y r .area) (sym (length-drop (atBytes (word l 8) (word l 16) (word l 24)) l))
 
 -- ---- a volume that fits, laid out
 

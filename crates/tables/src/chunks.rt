@@ -12,13 +12,13 @@ ghost use Rattle.volume.specs.Search.{chunkUnder};
 ghost use Rattle.volume.specs.Sound.{chunkBefore};
 ghost use Rattle.tables.specs.Tables.{Ready, chunkAt};
 
-// The chunk in row i.
-pub fn chunk_row(volume: &[u8], layout: Layout, i: usize) -> ChunkRow
-    requires { ⌜ Ready (now volume) layout × (i < length (shown (now volume) .store .chunks)) ⌝ }
-    ensures { λ r. ⌜ r ≡ chunkAt (shown (now (volume .entry)) .store .chunks) i ⌝ }
+// The chunk at a place.
+pub fn chunk_row(volume: &[u8], layout: Layout, place: usize) -> ChunkRow
+    requires { ⌜ Ready (now volume) layout × (place < length (shown (now volume) .store .chunks)) ⌝ }
+    ensures { λ r. ⌜ r ≡ chunkAt (shown (now (volume .entry)) .store .chunks) place ⌝ }
 {
     let base = layout.chunks;
-    volume::read_chunk(volume, base + volume::CHUNK_ROW * i)
+    volume::read_chunk(volume, base + volume::CHUNK_ROW * place)
 }
 
 // The first row at or above (node, index).
@@ -31,14 +31,14 @@ pub fn first_chunk(volume: &[u8], layout: Layout, node: u64, index: u64) -> usiz
     volume::seek_chunk(volume, base, used, node, index)
 }
 
-// Puts a row in before row p.
-pub fn insert_chunk(volume: &mut [u8], layout: Layout, p: usize, row: ChunkRow)
-    requires { ⌜ Ready (now volume) layout × (p ≤ length (shown (now volume) .store .chunks)) × (length (shown (now volume) .store .chunks) < shown (now volume) .store .chunkRoom) ⌝ }
-    ensures { λ _. ⌜ now (volume .exit) ≡ laid (onStore (withChunks (insertAt p row (shown (now (volume .entry)) .store .chunks))) (shown (now (volume .entry)))) ⌝ }
+// Puts a row in before the row at a place.
+pub fn insert_chunk(volume: &mut [u8], layout: Layout, place: usize, row: ChunkRow)
+    requires { ⌜ Ready (now volume) layout × (place ≤ length (shown (now volume) .store .chunks)) × (length (shown (now volume) .store .chunks) < shown (now volume) .store .chunkRoom) ⌝ }
+    ensures { λ _. ⌜ now (volume .exit) ≡ laid (onStore (withChunks (insertAt place row (shown (now (volume .entry)) .store .chunks))) (shown (now (volume .entry)))) ⌝ }
 {
     let used = chunks_used(volume, layout);
     let base = layout.chunks;
-    let at = base + volume::CHUNK_ROW * p;
+    let at = base + volume::CHUNK_ROW * place;
     words::shift_up(
         volume,
         at,
@@ -49,16 +49,21 @@ pub fn insert_chunk(volume: &mut [u8], layout: Layout, p: usize, row: ChunkRow)
     words::put64(volume, volume::CHUNKS_USED, used as u64 + 1);
 }
 
-// Takes n rows out, from row p on, in one move.
-pub fn remove_chunks(volume: &mut [u8], layout: Layout, p: usize, n: usize)
-    requires { ⌜ Ready (now volume) layout × (p + n ≤ length (shown (now volume) .store .chunks)) ⌝ }
-    ensures { λ _. ⌜ now (volume .exit) ≡ laid (onStore (withChunks (take p (shown (now (volume .entry)) .store .chunks) ++ drop (p + n) (shown (now (volume .entry)) .store .chunks))) (shown (now (volume .entry)))) ⌝ }
+// Takes rows out, from a place on, in one move.
+pub fn remove_chunks(volume: &mut [u8], layout: Layout, place: usize, count: usize)
+    requires { ⌜ Ready (now volume) layout × (place + count ≤ length (shown (now volume) .store .chunks)) ⌝ }
+    ensures { λ _. ⌜ now (volume .exit) ≡ laid (onStore (withChunks (take place (shown (now (volume .entry)) .store .chunks) ++ drop (place + count) (shown (now (volume .entry)) .store .chunks))) (shown (now (volume .entry)))) ⌝ }
 {
     let used = chunks_used(volume, layout);
     let base = layout.chunks;
-    let gone = volume::CHUNK_ROW * n;
+    let gone = volume::CHUNK_ROW * count;
     let end = base + volume::CHUNK_ROW * used;
-    words::shift_down(volume, base + volume::CHUNK_ROW * (p + n), end, gone);
+    words::shift_down(
+        volume,
+        base + volume::CHUNK_ROW * (place + count),
+        end,
+        gone,
+    );
     words::clear(volume, end - gone, gone);
-    words::put64(volume, volume::CHUNKS_USED, (used - n) as u64);
+    words::put64(volume, volume::CHUNKS_USED, (used - count) as u64);
 }

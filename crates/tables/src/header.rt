@@ -43,7 +43,7 @@ pub fn area_size(volume: &[u8], layout: Layout) -> usize
     requires { ⌜ Ready (now volume) layout ⌝ }
     ensures { λ r. ⌜ r ≡ length (shown (now (volume .entry)) .store .bytes) ⌝ }
 {
-    volume.len() - layout.bytes
+    volume.len() - layout.area
 }
 
 // The number that the next node made gets.

@@ -13,22 +13,22 @@ ghost use Rattle.volume.specs.Volume.{shown, laid, withNodes, onNames};
 ghost use Rattle.volume.specs.Sound.{nodeBefore};
 ghost use Rattle.tables.specs.Tables.{Ready, nodeAt, foundNode, sized, linked, limited};
 
-// The node in row i.
-pub fn node_row(volume: &[u8], layout: Layout, i: usize) -> NodeRecord
-    requires { ⌜ Ready (now volume) layout × (i < length (shown (now volume) .names .nodes)) ⌝ }
-    ensures { λ r. ⌜ r ≡ nodeAt (shown (now (volume .entry)) .names .nodes) i ⌝ }
+// The node at a place.
+pub fn node_row(volume: &[u8], layout: Layout, place: usize) -> NodeRecord
+    requires { ⌜ Ready (now volume) layout × (place < length (shown (now volume) .names .nodes)) ⌝ }
+    ensures { λ r. ⌜ r ≡ nodeAt (shown (now (volume .entry)) .names .nodes) place ⌝ }
 {
     let base = layout.nodes;
-    volume::read_node(volume, base + volume::NODE_ROW * i)
+    volume::read_node(volume, base + volume::NODE_ROW * place)
 }
 
-// The number of the node in row i, read by itself.
-pub fn node_number(volume: &[u8], layout: Layout, i: usize) -> u64
-    requires { ⌜ Ready (now volume) layout × (i < length (shown (now volume) .names .nodes)) ⌝ }
-    ensures { λ r. ⌜ r ≡ nodeAt (shown (now (volume .entry)) .names .nodes) i .node ⌝ }
+// The number of the node at a place, read by itself.
+pub fn node_number(volume: &[u8], layout: Layout, place: usize) -> u64
+    requires { ⌜ Ready (now volume) layout × (place < length (shown (now volume) .names .nodes)) ⌝ }
+    ensures { λ r. ⌜ r ≡ nodeAt (shown (now (volume .entry)) .names .nodes) place .node ⌝ }
 {
     let base = layout.nodes;
-    words::get64(volume, base + volume::NODE_ROW * i)
+    words::get64(volume, base + volume::NODE_ROW * place)
 }
 
 // The row of a node, by halving.
@@ -48,13 +48,13 @@ pub fn find_node(volume: &[u8], layout: Layout, node: u64) -> Found
     Found::At(i)
 }
 
-// Writes another row over row i.
-pub fn change_node(volume: &mut [u8], layout: Layout, i: usize, row: NodeRecord)
-    requires { ⌜ Ready (now volume) layout × (i < length (shown (now volume) .names .nodes)) ⌝ }
-    ensures { λ _. ⌜ now (volume .exit) ≡ laid (onNames (withNodes (set (shown (now (volume .entry)) .names .nodes) i row)) (shown (now (volume .entry)))) ⌝ }
+// Writes another row over the one at a place.
+pub fn change_node(volume: &mut [u8], layout: Layout, place: usize, row: NodeRecord)
+    requires { ⌜ Ready (now volume) layout × (place < length (shown (now volume) .names .nodes)) ⌝ }
+    ensures { λ _. ⌜ now (volume .exit) ≡ laid (onNames (withNodes (set (shown (now (volume .entry)) .names .nodes) place row)) (shown (now (volume .entry)))) ⌝ }
 {
     let base = layout.nodes;
-    volume::write_node(volume, base + volume::NODE_ROW * i, row);
+    volume::write_node(volume, base + volume::NODE_ROW * place, row);
 }
 
 // A node's row with another size.
@@ -100,14 +100,14 @@ pub fn append_node(volume: &mut [u8], layout: Layout, row: NodeRecord)
     words::put64(volume, volume::NODES_USED, used as u64 + 1);
 }
 
-// Takes row i out.
-pub fn remove_node(volume: &mut [u8], layout: Layout, i: usize)
-    requires { ⌜ Ready (now volume) layout × (i < length (shown (now volume) .names .nodes)) ⌝ }
-    ensures { λ _. ⌜ now (volume .exit) ≡ laid (onNames (withNodes (removeAt i (shown (now (volume .entry)) .names .nodes))) (shown (now (volume .entry)))) ⌝ }
+// Takes the row at a place out.
+pub fn remove_node(volume: &mut [u8], layout: Layout, place: usize)
+    requires { ⌜ Ready (now volume) layout × (place < length (shown (now volume) .names .nodes)) ⌝ }
+    ensures { λ _. ⌜ now (volume .exit) ≡ laid (onNames (withNodes (removeAt place (shown (now (volume .entry)) .names .nodes))) (shown (now (volume .entry)))) ⌝ }
 {
     let used = nodes_used(volume, layout);
     let base = layout.nodes;
-    let next = base + volume::NODE_ROW * (i + 1);
+    let next = base + volume::NODE_ROW * (place + 1);
     let end = base + volume::NODE_ROW * used;
     words::shift_down(volume, next, end, volume::NODE_ROW);
     words::clear(volume, end - volume::NODE_ROW, volume::NODE_ROW);

@@ -54,10 +54,10 @@ pub fn free(volume: &mut [u8], layout: Layout, pointer: u64)
 }
 
 // Sets the chunk size; another one only if no pointer was ever given out.
-pub fn set_chunk_size(volume: &mut [u8], layout: Layout, size: u64) -> Answer
+pub fn set_chunk_size(volume: &mut [u8], layout: Layout, span: u64) -> Answer
     requires { ⌜ Ready (now volume) layout ⌝ }
-    ensures { λ r. ⌜ (r ≡ setChunkSize size (shown (now (volume .entry)) .store .allocator) .answer) × (now (volume .exit) ≡ laid (onStore (withAllocator (setChunkSize size (shown (now (volume .entry)) .store .allocator) .after)) (shown (now (volume .entry))))) ⌝ }
+    ensures { λ r. ⌜ (r ≡ setChunkSize span (shown (now (volume .entry)) .store .allocator) .answer) × (now (volume .exit) ≡ laid (onStore (withAllocator (setChunkSize span (shown (now (volume .entry)) .store .allocator) .after)) (shown (now (volume .entry))))) ⌝ }
 {
     let end = layout.nodes;
-    allocator::set_chunk_size(&mut volume[volume::ALLOCATOR..end], size)
+    allocator::set_chunk_size(&mut volume[volume::ALLOCATOR..end], span)
 }

@@ -2,7 +2,9 @@
 -- Assumes nothing.
 use Prim.Native.Nat.{ℕ, _+_}
 use mathlib.Core.Bool.{Bool}
+use mathlib.Core.List.{List}
 use lib.Dec.{leb}
+use Rattle.words.specs.Bytes.{word}
 use Rattle.words.specs.Rules.{pick, both}
 use Rattle.types.specs.Sizes.{mostRows, leastArea}
 use Rattle.volume.specs.declared.Layout.{Layout}
@@ -14,10 +16,18 @@ unfoldable pub roomy : ℕ → Bool
 roomy n = both (leb 1 n) (leb n mostRows)
 
 abbrev pub layoutOf : ℕ → ℕ → ℕ → Layout
-layoutOf n e c = record { nodes = atNodes c; entries = atEntries n c; chunks = atChunks n e c; bytes = atBytes n e c }
+layoutOf n e c = record { nodes = atNodes c; entries = atEntries n c; chunks = atChunks n e c; area = atBytes n e c }
 
 unfoldable pub placed : ℕ → ℕ → ℕ → ℕ → Bool
 placed n e c size = both (roomy n) (both (roomy e) (both (roomy c) (leb (atBytes n e c + leastArea) size)))
 
-unfoldable pub placeOf : ℕ → ℕ → ℕ → ℕ → Place
-placeOf n e c size = pick (placed n e c size) (At (layoutOf n e c)) Nowhere
+-- where the areas start, if a test passes
+unfoldable pub placeIf : Bool → Layout → Place
+placeIf b y = pick b (At y) Nowhere
+
+abbrev pub placeOf : ℕ → ℕ → ℕ → ℕ → Place
+placeOf n e c size = placeIf (placed n e c size) (layoutOf n e c)
+
+-- where a header says that the areas start
+abbrev pub layoutIn : List ℕ → Layout
+layoutIn l = layoutOf (word l 8) (word l 16) (word l 24)

@@ -50,8 +50,8 @@ pub fn entry_name(volume: &[u8], at: usize) -> &[u8]
     ensures { λ r. ⌜ now r ≡ readEntry (part (now (volume .entry)) at 280) .name ⌝ }
 {
     let start = at + NAME;
-    let size = words::get32(volume, at + NAME_SIZE) as usize;
-    &volume[start..start + size]
+    let long = words::get32(volume, at + NAME_SIZE) as usize;
+    &volume[start..start + long]
 }
 
 // Writes an entry's row at index at.
@@ -59,13 +59,13 @@ pub fn write_entry(volume: &mut [u8], at: usize, parent: u64, node: u64, index: 
     requires { ⌜ (at + 280 ≤ length (now volume)) × (length (now name) ≤ nameRoom) ⌝ }
     ensures { λ _. ⌜ now (volume .exit) ≡ over (now (volume .entry)) at (layEntry (record { parent = parent; node = node; index = index; name = now (name .entry) })) ⌝ }
 {
-    let size = name.len();
+    let long = name.len();
     words::put64(volume, at, parent);
     words::put64(volume, at + NODE, node);
     words::put32(volume, at + INDEX, index);
-    words::put32(volume, at + NAME_SIZE, size as u64);
+    words::put32(volume, at + NAME_SIZE, long as u64);
     words::copy(volume, at + NAME, name);
-    words::clear(volume, at + NAME + size, types::NAME_ROOM - size);
+    words::clear(volume, at + NAME + long, types::NAME_ROOM - long);
 }
 
 // Whether the row whose bytes start at index at stands before (parent, index).
@@ -104,14 +104,14 @@ pub fn entry_formed(volume: &[u8], at: usize) -> bool
     requires { ⌜ at + 280 ≤ length (now volume) ⌝ }
     ensures { λ r. ⌜ r ≡ entryFormed (now (volume .entry)) at ⌝ }
 {
-    let size = words::get32(volume, at + NAME_SIZE) as usize;
-    if size < 1 {
+    let long = words::get32(volume, at + NAME_SIZE) as usize;
+    if long < 1 {
         return false;
     }
-    if types::MOST_NAME < size {
+    if types::MOST_NAME < long {
         return false;
     }
-    let rest = at + NAME + size;
-    let unused = types::NAME_ROOM - size;
+    let rest = at + NAME + long;
+    let unused = types::NAME_ROOM - long;
     words::is_zero(&volume[rest..rest + unused])
 }

@@ -32,9 +32,9 @@ fn root() -> NodeRecord
 }
 
 // Lays a new volume out. The allocator's words follow the header's, so that the marker and the chunk size are written with them.
-fn lay(volume: &mut [u8], nodes: u64, entries: u64, chunks: u64, size: u64, at: usize)
+fn lay(volume: &mut [u8], nodes: u64, entries: u64, chunks: u64, span: u64, at: usize)
     requires { ⌜ Placed nodes entries chunks (length (now volume)) × (at ≡ atNodes chunks) ⌝ }
-    ensures { λ _. ⌜ now (volume .exit) ≡ freshLaid nodes entries chunks size (length (now (volume .entry))) ⌝ }
+    ensures { λ _. ⌜ now (volume .exit) ≡ freshLaid nodes entries chunks span (length (now (volume .entry))) ⌝ }
 {
     let whole = volume.len();
     words::clear(volume, 0, whole);
@@ -48,23 +48,23 @@ fn lay(volume: &mut [u8], nodes: u64, entries: u64, chunks: u64, size: u64, at: 
         0,
         FIRST_NODE,
         allocator::MARKER,
-        size,
+        span,
     ];
     words::put_words(volume, 0, &heads);
     write_node(volume, at, root());
 }
 
 // Makes a volume of all of a memory, whatever it held. Refused numbers change nothing.
-pub fn new_volume(volume: &mut [u8], nodes: u64, entries: u64, chunks: u64, size: u64) -> Answer
-    ensures { λ r. ⌜ outcome r (now (volume .exit)) ≡ newVolume nodes entries chunks size (now (volume .entry)) ⌝ }
+pub fn new_volume(volume: &mut [u8], nodes: u64, entries: u64, chunks: u64, span: u64) -> Answer
+    ensures { λ r. ⌜ outcome r (now (volume .exit)) ≡ newVolume nodes entries chunks span (now (volume .entry)) ⌝ }
 {
     let place = place_tables(nodes, entries, chunks, volume.len() as u64);
     let Place::At(layout) = place else {
         return Answer::Refused(Error::InvalidArgument);
     };
-    if !allocator::accepted(size) {
+    if !allocator::accepted(span) {
         return Answer::Refused(Error::InvalidArgument);
     }
-    lay(volume, nodes, entries, chunks, size, layout.nodes);
+    lay(volume, nodes, entries, chunks, span, layout.nodes);
     Answer::Done(0)
 }

@@ -9,9 +9,8 @@ use crate::NODE_ROW;
 use crate::Place;
 ghost use mathlib.Core.Path.{_≡_};
 ghost use Prim.Native.Nat.{_≤_};
-ghost use Rattle.words.specs.Bytes.{word};
 ghost use Rattle.types.specs.Sizes.{mostRows};
-ghost use Rattle.volume.specs.Geometry.{roomy, layoutOf, placeOf};
+ghost use Rattle.volume.specs.Geometry.{roomy, layoutOf, layoutIn, placeOf};
 ghost use Rattle.volume.specs.Framed.{Headed};
 
 // The node rows stand behind the header's words, the allocator's first words, and a word for each chunk.
@@ -39,7 +38,7 @@ fn starts(nodes: u64, entries: u64, chunks: u64) -> Layout
         nodes: first,
         entries: second,
         chunks: third,
-        bytes: third + CHUNK_ROW * (chunks as usize),
+        area: third + CHUNK_ROW * (chunks as usize),
     }
 }
 
@@ -57,8 +56,8 @@ pub fn place_tables(nodes: u64, entries: u64, chunks: u64, extent: u64) -> Place
         return Place::Nowhere;
     }
     let layout = starts(nodes, entries, chunks);
-    let bytes = layout.bytes as u64;
-    if extent < bytes + types::LEAST_AREA {
+    let area = layout.area as u64;
+    if extent < area + types::LEAST_AREA {
         return Place::Nowhere;
     }
     Place::At(layout)
@@ -67,7 +66,7 @@ pub fn place_tables(nodes: u64, entries: u64, chunks: u64, extent: u64) -> Place
 // The areas of a volume whose header was checked.
 pub fn read_layout(volume: &[u8]) -> Layout
     requires { ⌜ Headed (now volume) ⌝ }
-    ensures { λ r. ⌜ r ≡ layoutOf (word (now (volume .entry)) 8) (word (now (volume .entry)) 16) (word (now (volume .entry)) 24) ⌝ }
+    ensures { λ r. ⌜ r ≡ layoutIn (now (volume .entry)) ⌝ }
 {
     starts(
         words::get64(volume, NODE_ROOM),

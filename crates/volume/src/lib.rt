@@ -69,7 +69,7 @@ pub struct Layout {
     pub nodes: usize,
     pub entries: usize,
     pub chunks: usize,
-    pub bytes: usize,
+    pub area: usize,
 }
 
 // Where the areas of a memory start, if it can be a volume.

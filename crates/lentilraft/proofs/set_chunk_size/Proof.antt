@@ -23,7 +23,7 @@ same-length c = search needs
 returns : tie.Need-returns
 unfolding setChunkSize
 returns c =
-    door-shut (now (c .before .before .before .before .before .args .volume)) (chunkSizeSet (c .before .before .before .before .before .args .size)) (not-opened (now (c .before .before .before .before .before .args .volume)) (c .before .before .«open» .ensures) (c .before .match .keys2))
+    door-shut (now (c .before .before .before .before .before .args .volume)) (chunkSizeSet (c .before .before .before .before .before .args .span)) (not-opened (now (c .before .before .before .before .before .args .volume)) (c .before .before .«open» .ensures) (c .before .match .keys2))
 
 set-chunk-size-requires : tie.Need-set-chunk-size-requires
 unfolding Bytes
@@ -36,7 +36,7 @@ same-length-2 c = search needs
 returns-2 : tie.Need-returns-2
 unfolding setChunkSize chunkSizeSet
 returns-2 c =
-    door-open (now (c .before .before .before .before .before .before .before .before .before .before .args .volume)) (chunkSizeSet (c .before .before .before .before .before .before .before .before .before .before .args .size)) (opened-sound (now (c .before .before .before .before .before .before .before .before .before .before .args .volume)) (c .before .before .before .before .before .before .before .«open» .ensures) (c .before .before .before .before .before .before .match .keys1)) (c .before .before .set-chunk-size .ensures)
+    door-open (now (c .before .before .before .before .before .before .before .before .before .before .args .volume)) (chunkSizeSet (c .before .before .before .before .before .before .before .before .before .before .args .span)) (opened-sound (now (c .before .before .before .before .before .before .before .before .before .before .args .volume)) (c .before .before .before .before .before .before .before .«open» .ensures) (c .before .before .before .before .before .before .match .keys1)) (c .before .before .set-chunk-size .ensures)
 
 pub set-chunk-size-spec : {M : Type 1} → statement M
 set-chunk-size-spec =

@@ -18,7 +18,7 @@ abbrev μ-loop : tie.MeasureT-loop
 
 loop-holds : tie.Need-loop-holds Inv-loop μ-loop
 loop-holds c =
-    (search needs, upto-start ((λ i. lined (c .before .args .size) (c .before .args .next) (freeWord (now (c .before .args .words)) i))))
+    (search needs, upto-start ((λ i. lined (c .before .args .span) (c .before .args .next) (freeWord (now (c .before .args .words)) i))))
 
 get-ptr-requires : tie.Need-get-ptr-requires Inv-loop μ-loop
 get-ptr-requires c κs = search needs
@@ -29,7 +29,7 @@ is-lined-requires c κs = search needs
 returns : tie.Need-returns Inv-loop μ-loop
 unfolding freeWord
 returns c =
-    upto-fail ((λ i. lined (c .before .before .before .before .before .before .args .size) (c .before .before .before .before .before .before .args .next) (freeWord (now (c .before .before .before .before .before .before .args .words)) i))) (c .before .before .before .before .before .before .args .count) (c .before .before .before .before .loop .i) (c .before .before .before .loop-test .taken) (call-no (c .before .is-lined .ensures ∙ ap (lined (c .before .before .before .before .before .before .args .size) (c .before .before .before .before .before .before .args .next)) (c .before .before .get-ptr .ensures)) (c .if1 .taken))
+    upto-fail ((λ i. lined (c .before .before .before .before .before .before .args .span) (c .before .before .before .before .before .before .args .next) (freeWord (now (c .before .before .before .before .before .before .args .words)) i))) (c .before .before .before .before .before .before .args .count) (c .before .before .before .before .loop .i) (c .before .before .before .loop-test .taken) (call-no (c .before .is-lined .ensures ∙ ap (lined (c .before .before .before .before .before .before .args .span) (c .before .before .before .before .before .before .args .next)) (c .before .before .get-ptr .ensures)) (c .if1 .taken))
 
 add-i : tie.Need-add-i Inv-loop μ-loop
 add-i c = search needs
@@ -40,11 +40,11 @@ loop-less c = search needs
 loop-again : tie.Need-loop-again Inv-loop μ-loop
 unfolding freeWord
 loop-again c =
-    (search needs, upto-turn ((λ i. lined (c .before .before .before .before .before .before .args .size) (c .before .before .before .before .before .before .args .next) (freeWord (now (c .before .before .before .before .before .before .args .words)) i))) (c .before .before .before .before .loop .i) (c .before .before .before .before .loop .inv .1) (call-yes (c .before .is-lined .ensures ∙ ap (lined (c .before .before .before .before .before .before .args .size) (c .before .before .before .before .before .before .args .next)) (c .before .before .get-ptr .ensures)) (c .if1 .left)))
+    (search needs, upto-turn ((λ i. lined (c .before .before .before .before .before .before .args .span) (c .before .before .before .before .before .before .args .next) (freeWord (now (c .before .before .before .before .before .before .args .words)) i))) (c .before .before .before .before .loop .i) (c .before .before .before .before .loop .inv .1) (call-yes (c .before .is-lined .ensures ∙ ap (lined (c .before .before .before .before .before .before .args .span) (c .before .before .before .before .before .before .args .next)) (c .before .before .get-ptr .ensures)) (c .if1 .left)))
 
 returns-2 : tie.Need-returns-2 Inv-loop μ-loop
 returns-2 c =
-    upto-end ((λ i. lined (c .before .before .before .args .size) (c .before .before .before .args .next) (freeWord (now (c .before .before .before .args .words)) i))) (c .before .before .before .args .count) (c .before .loop .i) (c .before .loop .inv .1) (omega arith)
+    upto-end ((λ i. lined (c .before .before .before .args .span) (c .before .before .before .args .next) (freeWord (now (c .before .before .before .args .words)) i))) (c .before .before .before .args .count) (c .before .loop .i) (c .before .loop .inv .1) (omega arith)
 
 pub all-lined-spec : {M : Type 1} → statement M
 all-lined-spec =

@@ -22,7 +22,7 @@ rem-if1 c = search needs
 returns : tie.Need-returns
 unfolding pointersGood
 returns c =
-    stop _ _ (is-no (ap (λ n. n % c .before .before .before .args .size) (c .before .get64 .ensures)) (c .if1 .taken))
+    stop _ _ (is-no (ap (λ n. n % c .before .before .before .args .span) (c .before .get64 .ensures)) (c .if1 .taken))
 
 get-len-requires : tie.Need-get-len-requires
 get-len-requires c κs = search needs
@@ -33,7 +33,7 @@ sub-room c = search needs
 returns-2 : tie.Need-returns-2
 unfolding pointersGood
 returns-2 c =
-    go-on _ _ (is-yes (ap (λ n. n % c .before .before .before .before .before .args .size) (c .before .before .before .get64 .ensures)) (c .before .before .if1 .left)) (stop _ _ (lt-leb (word (now (c .before .before .before .before .before .args .words)) 16) (freeRoom (now (c .before .before .before .before .before .args .words))) (omega (arith, c .before .get-len .ensures))))
+    go-on _ _ (is-yes (ap (λ n. n % c .before .before .before .before .before .args .span) (c .before .before .before .get64 .ensures)) (c .before .before .if1 .left)) (stop _ _ (lt-leb (word (now (c .before .before .before .before .before .args .words)) 16) (freeRoom (now (c .before .before .before .before .before .args .words))) (omega (arith, c .before .get-len .ensures))))
 
 all-lined-requires : tie.Need-all-lined-requires
 all-lined-requires c κs = search needs
@@ -41,7 +41,7 @@ all-lined-requires c κs = search needs
 returns-3 : tie.Need-returns-3
 unfolding pointersGood freeLined
 returns-3 c =
-    go-on _ _ (is-yes (ap (λ n. n % c .before .before .before .before .before .before .before .args .size) (c .before .before .before .before .before .get64 .ensures)) (c .before .before .before .before .if1 .left)) (go-on _ _ (le-leb (word (now (c .before .before .before .before .before .before .before .args .words)) 16) (freeRoom (now (c .before .before .before .before .before .before .before .args .words))) (omega (arith, c .before .before .before .get-len .ensures))) (stop _ _ (call-no (by2 (λ n s. upto n (λ i. lined (c .before .before .before .before .before .before .before .args .size) s (freeWord (now (c .before .before .before .before .before .before .before .args .words)) i))) (c .before .all-lined .ensures) (c .before .before .before .get-len .ensures) (c .before .before .before .before .before .get64 .ensures)) (c .if3 .taken))))
+    go-on _ _ (is-yes (ap (λ n. n % c .before .before .before .before .before .before .before .args .span) (c .before .before .before .before .before .get64 .ensures)) (c .before .before .before .before .if1 .left)) (go-on _ _ (le-leb (word (now (c .before .before .before .before .before .before .before .args .words)) 16) (freeRoom (now (c .before .before .before .before .before .before .before .args .words))) (omega (arith, c .before .before .before .get-len .ensures))) (stop _ _ (call-no (by2 (λ n s. upto n (λ i. lined (c .before .before .before .before .before .before .before .args .span) s (freeWord (now (c .before .before .before .before .before .before .before .args .words)) i))) (c .before .all-lined .ensures) (c .before .before .before .get-len .ensures) (c .before .before .before .before .before .get64 .ensures)) (c .if3 .taken))))
 
 all-apart-requires : tie.Need-all-apart-requires
 all-apart-requires c κs = search needs
@@ -49,7 +49,7 @@ all-apart-requires c κs = search needs
 returns-4 : tie.Need-returns-4
 unfolding pointersGood freeLined freeApart
 returns-4 c =
-    go-on _ _ (is-yes (ap (λ n. n % c .before .before .before .before .before .before .before .before .args .size) (c .before .before .before .before .before .before .get64 .ensures)) (c .before .before .before .before .before .if1 .left)) (go-on _ _ (le-leb (word (now (c .before .before .before .before .before .before .before .before .args .words)) 16) (freeRoom (now (c .before .before .before .before .before .before .before .before .args .words))) (omega (arith, c .before .before .before .before .get-len .ensures))) (go-on _ _ (call-yes (by2 (λ n s. upto n (λ i. lined (c .before .before .before .before .before .before .before .before .args .size) s (freeWord (now (c .before .before .before .before .before .before .before .before .args .words)) i))) (c .before .before .all-lined .ensures) (c .before .before .before .before .get-len .ensures) (c .before .before .before .before .before .before .get64 .ensures)) (c .before .if3 .left)) (by1 (λ n. apart n (λ j i. eqb (freeWord (now (c .before .before .before .before .before .before .before .before .args .words)) j) (freeWord (now (c .before .before .before .before .before .before .before .before .args .words)) i))) (c .all-apart .ensures) (c .before .before .before .before .get-len .ensures))))
+    go-on _ _ (is-yes (ap (λ n. n % c .before .before .before .before .before .before .before .before .args .span) (c .before .before .before .before .before .before .get64 .ensures)) (c .before .before .before .before .before .if1 .left)) (go-on _ _ (le-leb (word (now (c .before .before .before .before .before .before .before .before .args .words)) 16) (freeRoom (now (c .before .before .before .before .before .before .before .before .args .words))) (omega (arith, c .before .before .before .before .get-len .ensures))) (go-on _ _ (call-yes (by2 (λ n s. upto n (λ i. lined (c .before .before .before .before .before .before .before .before .args .span) s (freeWord (now (c .before .before .before .before .before .before .before .before .args .words)) i))) (c .before .before .all-lined .ensures) (c .before .before .before .before .get-len .ensures) (c .before .before .before .before .before .before .get64 .ensures)) (c .before .if3 .left)) (by1 (λ n. apart n (λ j i. eqb (freeWord (now (c .before .before .before .before .before .before .before .before .args .words)) j) (freeWord (now (c .before .before .before .before .before .before .before .before .args .words)) i))) (c .all-apart .ensures) (c .before .before .before .before .get-len .ensures))))
 
 pub pointers-good-spec : {M : Type 1} → statement M
 pointers-good-spec =

@@ -25,7 +25,7 @@ slice-aggregate-put-line-3 c = search needs
 
 cast-put-line : tie.Need-cast-put-line
 cast-put-line c =
-    record { fits = omega (arith, trailing-le 64 (c .before .before .before .before .before .before .before .before .before .before .before .before .before .args .size)) }
+    record { fits = omega (arith, trailing-le 64 (c .before .before .before .before .before .before .before .before .before .before .before .before .before .args .span)) }
 
 put-line-requires-3 : tie.Need-put-line-requires-3
 put-line-requires-3 c κs = search needs
@@ -40,7 +40,7 @@ returns c =
     let x = c .before .before .before .before .before .before .before .before .before .before .before .before .put-line in
     let y = c .before .before .before .before .before .before .before .put-line2 in
     let z = c .before .before .put-line3 in
-    three-first (now (s .args .out)) 93 (line formatKey form) (line chunkSizeKey (s .args .size)) (line chunkShiftKey (trailingZeros 64 (s .args .size))) (x .result) (y .result) (z .result)
+    three-first (now (s .args .out)) 93 (line formatKey form) (line chunkSizeKey (s .args .span)) (line chunkShiftKey (trailingZeros 64 (s .args .span))) (x .result) (y .result) (z .result)
     (omega (arith, x .ensures .0)) (y .ensures .0) (z .ensures .0) (omega arith) (omega arith) (x .ensures .2) (y .ensures .2) (z .ensures .2)
 
 pub put-sizes-spec : {M : Type 1} → statement M

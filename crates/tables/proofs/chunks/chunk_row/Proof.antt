@@ -18,7 +18,7 @@ read-chunk-requires c κs =
 
 returns : tie.Need-returns
 returns c =
-    row-there (chunk-table (now (c .before .before .args .volume)) (c .before .before .args .layout) (c .before .before .pre .0)) (c .before .before .args .i) (c .before .before .pre .1) (c .read-chunk .ensures)
+    row-there (chunk-table (now (c .before .before .args .volume)) (c .before .before .args .layout) (c .before .before .pre .0)) (c .before .before .args .place) (c .before .before .pre .1) (c .read-chunk .ensures)
 
 pub chunk-row-spec : {M : Type 1} → statement M
 chunk-row-spec = tie.close (tie.spec mul-read-chunk add-read-chunk read-chunk-requires returns)

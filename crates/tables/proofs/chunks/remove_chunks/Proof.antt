@@ -52,7 +52,7 @@ same-length c = search needs
 
 returns : tie.Need-returns
 returns c =
-    rows-removed (chunk-table (now (c .before .before .before .before .before .before .before .before .before .before .before .before .before .before .before .args .volume)) (c .before .before .before .before .before .before .before .before .before .before .before .before .before .before .before .args .layout) (c .before .before .before .before .before .before .before .before .before .before .before .before .before .before .before .pre .0)) (c .before .before .before .before .before .before .before .before .before .before .before .before .before .before .before .args .p) (c .before .before .before .before .before .before .before .before .before .before .before .before .before .before .before .args .n) _ (c .before .before .before .before .before .before .before .before .before .before .before .before .chunks-used .ensures .0) (c .before .before .before .before .before .before .before .before .before .before .before .before .before .before .before .pre .1) (c .before .before .before .before .before .before .before .before .before .before .shift-down .ensures) (c .before .before .before .before .before .before .clear .ensures) (c .before .before .put64 .ensures)
+    rows-removed (chunk-table (now (c .before .before .before .before .before .before .before .before .before .before .before .before .before .before .before .args .volume)) (c .before .before .before .before .before .before .before .before .before .before .before .before .before .before .before .args .layout) (c .before .before .before .before .before .before .before .before .before .before .before .before .before .before .before .pre .0)) (c .before .before .before .before .before .before .before .before .before .before .before .before .before .before .before .args .place) (c .before .before .before .before .before .before .before .before .before .before .before .before .before .before .before .args .count) _ (c .before .before .before .before .before .before .before .before .before .before .before .before .chunks-used .ensures .0) (c .before .before .before .before .before .before .before .before .before .before .before .before .before .before .before .pre .1) (c .before .before .before .before .before .before .before .before .before .before .shift-down .ensures) (c .before .before .before .before .before .before .clear .ensures) (c .before .before .put64 .ensures)
 
 pub remove-chunks-spec : {M : Type 1} → statement M
 remove-chunks-spec =

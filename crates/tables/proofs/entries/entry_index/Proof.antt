@@ -20,7 +20,7 @@ entry-index-requires c κs =
 
 returns : tie.Need-returns
 returns c =
-    (c .entry-index .ensures .0 ∙ ap (λ e. e .index) (row-there (entry-table (now (c .before .before .args .volume)) (c .before .before .args .layout) (c .before .before .pre .0)) (c .before .before .args .i) (c .before .before .pre .1) refl), c .entry-index .ensures .1)
+    (c .entry-index .ensures .0 ∙ ap (λ e. e .index) (row-there (entry-table (now (c .before .before .args .volume)) (c .before .before .args .layout) (c .before .before .pre .0)) (c .before .before .args .place) (c .before .before .pre .1) refl), c .entry-index .ensures .1)
 
 pub entry-index-spec : {M : Type 1} → statement M
 entry-index-spec =

@@ -16,11 +16,11 @@ add-entry-name c =
 
 entry-name-requires : tie.Need-entry-name-requires
 entry-name-requires c κs =
-    (omega (arith, (rooms (now (c .before .args .volume)) (c .before .args .layout) (c .before .pre .0)), c .before .pre .1, count-entries (now (c .before .args .volume))), name-there (now (c .before .args .volume)) (c .before .args .layout) (c .before .pre .0) (c .before .args .i) (c .before .pre .1))
+    (omega (arith, (rooms (now (c .before .args .volume)) (c .before .args .layout) (c .before .pre .0)), c .before .pre .1, count-entries (now (c .before .args .volume))), name-there (now (c .before .args .volume)) (c .before .args .layout) (c .before .pre .0) (c .before .args .place) (c .before .pre .1))
 
 returns : tie.Need-returns
 returns c =
-    c .entry-name .ensures ∙ ap (λ e. e .name) (row-there (entry-table (now (c .before .before .args .volume)) (c .before .before .args .layout) (c .before .before .pre .0)) (c .before .before .args .i) (c .before .before .pre .1) refl)
+    c .entry-name .ensures ∙ ap (λ e. e .name) (row-there (entry-table (now (c .before .before .args .volume)) (c .before .before .args .layout) (c .before .before .pre .0)) (c .before .before .args .place) (c .before .before .pre .1) refl)
 
 pub entry-name-spec : {M : Type 1} → statement M
 entry-name-spec = tie.close (tie.spec mul-entry-name add-entry-name entry-name-requires returns)

@@ -20,7 +20,7 @@ entry-node-requires c κs =
 
 returns : tie.Need-returns
 returns c =
-    c .entry-node .ensures ∙ ap (λ e. e .node) (row-there (entry-table (now (c .before .before .args .volume)) (c .before .before .args .layout) (c .before .before .pre .0)) (c .before .before .args .i) (c .before .before .pre .1) refl)
+    c .entry-node .ensures ∙ ap (λ e. e .node) (row-there (entry-table (now (c .before .before .args .volume)) (c .before .before .args .layout) (c .before .before .pre .0)) (c .before .before .args .place) (c .before .before .pre .1) refl)
 
 pub entry-node-spec : {M : Type 1} → statement M
 entry-node-spec = tie.close (tie.spec mul-entry-node add-entry-node entry-node-requires returns)

@@ -20,7 +20,7 @@ entry-parent-requires c κs =
 
 returns : tie.Need-returns
 returns c =
-    c .entry-parent .ensures ∙ ap (λ e. e .parent) (row-there (entry-table (now (c .before .before .args .volume)) (c .before .before .args .layout) (c .before .before .pre .0)) (c .before .before .args .i) (c .before .before .pre .1) refl)
+    c .entry-parent .ensures ∙ ap (λ e. e .parent) (row-there (entry-table (now (c .before .before .args .volume)) (c .before .before .args .layout) (c .before .before .pre .0)) (c .before .before .args .place) (c .before .before .pre .1) refl)
 
 pub entry-parent-spec : {M : Type 1} → statement M
 entry-parent-spec =

@@ -21,7 +21,7 @@ same-length c = search needs
 
 returns : tie.Need-returns
 returns c =
-    row-changed (node-table (now (c .before .before .before .before .before .args .volume)) (c .before .before .before .before .before .args .layout) (c .before .before .before .before .before .pre .0)) (c .before .before .before .before .before .args .i) (c .before .before .before .before .before .args .row) (c .before .before .before .before .before .pre .1) (c .before .before .write-node .ensures)
+    row-changed (node-table (now (c .before .before .before .before .before .args .volume)) (c .before .before .before .before .before .args .layout) (c .before .before .before .before .before .pre .0)) (c .before .before .before .before .before .args .place) (c .before .before .before .before .before .args .row) (c .before .before .before .before .before .pre .1) (c .before .before .write-node .ensures)
 
 pub change-node-spec : {M : Type 1} → statement M
 change-node-spec =

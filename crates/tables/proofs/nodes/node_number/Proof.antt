@@ -19,7 +19,7 @@ get64-requires c κs =
 
 returns : tie.Need-returns
 returns c =
-    node-key (now (c .before .before .args .volume)) (c .before .before .args .layout) (c .before .before .pre .0) (c .before .before .args .i) (c .before .before .pre .1) (c .get64 .ensures)
+    node-key (now (c .before .before .args .volume)) (c .before .before .args .layout) (c .before .before .pre .0) (c .before .before .args .place) (c .before .before .pre .1) (c .get64 .ensures)
 
 pub node-number-spec : {M : Type 1} → statement M
 node-number-spec = tie.close (tie.spec mul-get64 add-get64 get64-requires returns)

@@ -18,7 +18,7 @@ read-node-requires c κs =
 
 returns : tie.Need-returns
 returns c =
-    row-there (node-table (now (c .before .before .args .volume)) (c .before .before .args .layout) (c .before .before .pre .0)) (c .before .before .args .i) (c .before .before .pre .1) (c .read-node .ensures)
+    row-there (node-table (now (c .before .before .args .volume)) (c .before .before .args .layout) (c .before .before .pre .0)) (c .before .before .args .place) (c .before .before .pre .1) (c .read-node .ensures)
 
 pub node-row-spec : {M : Type 1} → statement M
 node-row-spec = tie.close (tie.spec mul-read-node add-read-node read-node-requires returns)

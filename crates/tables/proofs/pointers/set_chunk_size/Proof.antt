@@ -24,7 +24,7 @@ same-length c = search needs
 
 returns : tie.Need-returns
 returns c =
-    resized (now (c .before .before .before .before .before .args .volume)) (c .before .before .before .before .before .args .layout) (c .before .before .before .before .before .pre) (c .before .before .before .before .before .args .size) (c .before .before .set-chunk-size .ensures)
+    resized (now (c .before .before .before .before .before .args .volume)) (c .before .before .before .before .before .args .layout) (c .before .before .before .before .before .pre) (c .before .before .before .before .before .args .span) (c .before .before .set-chunk-size .ensures)
 
 pub set-chunk-size-spec : {M : Type 1} → statement M
 set-chunk-size-spec =
