@@ -17,6 +17,7 @@ use Rattle.words.proofs.Parts.{length-part, length-zeros, length-over, over-nil
 use Rattle.words.proofs.Multiples.{next-chunk}
 use Rattle.words.proofs.Rules.{call-no, call-yes}
 use Rattle.words.proofs.Written.{over-all, length-lent}
+use Rattle.volume.specs.Header.{atChunkRoom, atEntryRoom, atNodeRoom}
 use Rattle.volume.specs.declared.Layout.{Layout}
 use Rattle.volume.specs.declared.ChunkRow.{ChunkRow}
 use Rattle.volume.specs.Volume.{Store, shown, atBytes}
@@ -33,7 +34,7 @@ use Rattle.files.specs.Files.{IsSpan}
 -- a part of the chunk area is a part of the volume
 pub area-part : (l : List ℕ) (y : Layout) → Ready l y → (at n : ℕ) → part l (y .area + at) n ≡ part (shown l .store .bytes) at n
 unfolding part shown
-area-part l y r at n = rw (rooms l y r .area, drop-drop at (atBytes (word l 8) (word l 16) (word l 24)) l)
+area-part l y r at n = rw (rooms l y r .area, drop-drop at (atBytes (word l atNodeRoom) (word l atEntryRoom) (word l atChunkRoom)) l)
 
 -- and so it is when it is lent
 pub area-lent : (l : List ℕ) (y : Layout) → Ready l y → (at n : ℕ) → take (y .area + at + n - (y .area + at)) (drop (y .area + at) l) ≡ part (shown l .store .bytes) at n

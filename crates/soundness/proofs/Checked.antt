@@ -13,6 +13,7 @@ use Rattle.words.proofs.Numbers.{num-part}
 use Rattle.words.proofs.Rules.{Says, says-map, says-both, says-and, says-true, true-says}
 use Rattle.allocator.specs.Allocator.{free, readAllocator}
 use Rattle.allocator.proofs.Sizes.{accepted-bounds}
+use Rattle.volume.specs.Header.{atChunkRoom, atChunkSize}
 use Rattle.volume.specs.declared.Layout.{Layout}
 use Rattle.volume.specs.declared.Place.{Place}
 use Rattle.volume.specs.declared.Place.the-variants.{At}
@@ -78,7 +79,7 @@ says-good v pos =
 
 size-there : (l : List ℕ) → Framed l → 0 < shown l .store .allocator .chunkSize
 unfolding shown readAllocator
-size-there l f = omega (arith, num-part 8 l 64 (128 + 8 * word l 24) 8 (omega arith), accepted-bounds (word l 72) (f .marked .size))
+size-there l f = omega (arith, num-part 8 l 64 (128 + 8 * word l atChunkRoom) 8 (omega arith), accepted-bounds (word l atChunkSize) (f .marked .size))
 
 -- the check accepts exactly what is sound
 pub says-sound : (l : List ℕ) → Says (Sound l) (sound l)

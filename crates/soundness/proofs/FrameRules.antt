@@ -17,6 +17,8 @@ use Rattle.words.proofs.Blocks.{says-zeros}
 use Rattle.allocator.specs.Sizes.{acceptedSize}
 use Rattle.allocator.specs.Allocator.{marker}
 use Rattle.allocator.specs.Words.{wellMarked}
+use Rattle.volume.specs.Header.{atChunkRoom, atChunkSize, atChunksUsed, atEntriesUsed, atEntryRoom, atForm, atFreeCount, atMarker, atNodeRoom, atNodesUsed}
+use Rattle.volume.specs.Rows.{nodeRow, entryRow, chunkRow}
 use Rattle.volume.specs.Volume.{form, atNodes, atEntries, atChunks}
 use Rattle.volume.specs.declared.Place.{Place}
 use Rattle.volume.specs.declared.Layout.{Layout}
@@ -34,14 +36,14 @@ unfolding headed
 says-headed l =
     says-map (λ p. record { least = p .0; formed = p .1 .0; placed = p .1 .1 .0; nodes = p .1 .1 .1 .0; entries = p .1 .1 .1 .1 .0; chunks = p .1 .1 .1 .1 .1 })
     (λ h. (h .least, (h .formed, (h .placed, (h .nodes, (h .entries, h .chunks))))))
-    (says-both (says-leb 64 (length l)) (says-both (says-eqb (word l 0) form) (says-both (says-placed (word l 8) (word l 16) (word l 24) (length l))
-    (says-both (says-leb (word l 32) (word l 8)) (says-both (says-leb (word l 40) (word l 16)) (says-leb (word l 48) (word l 24)))))))
+    (says-both (says-leb 64 (length l)) (says-both (says-eqb (word l atForm) form) (says-both (says-placed (word l atNodeRoom) (word l atEntryRoom) (word l atChunkRoom) (length l))
+    (says-both (says-leb (word l atNodesUsed) (word l atNodeRoom)) (says-both (says-leb (word l atEntriesUsed) (word l atEntryRoom)) (says-leb (word l atChunksUsed) (word l atChunkRoom)))))))
 
 says-marked : (l : List ℕ) → Says (Marked l) (marked l)
 unfolding marked
 says-marked l =
     says-map (λ p. record { mark = p .0; size = p .1 .0; free = p .1 .1 }) (λ h. (h .mark, (h .size, h .free)))
-    (says-both (says-eqb (word l 64) marker) (says-both (says-itself (acceptedSize (word l 72))) (says-leb (word l 80) (word l 24))))
+    (says-both (says-eqb (word l atMarker) marker) (says-both (says-itself (acceptedSize (word l atChunkSize))) (says-leb (word l atFreeCount) (word l atChunkRoom))))
 
 says-rows : (Row : ℕ → Type 0) (row : ℕ → Bool) (s : ℕ) (l : List ℕ) (at used room : ℕ) → at + s * used + s * (room - used) ≤ length l → ((i : ℕ) → i < used → Says (Row (at + s * i)) (row (at + s * i)))
     → Says (RowsFormed Row s l at used room) (rowsFormed row s l at used room)
@@ -55,9 +57,9 @@ unfolding framed formed
 says-framed l =
     says-map (λ p. record { headed = p .0; marked = p .1 .0; nodes = p .1 .1 .0; entries = p .1 .1 .1 .0; chunks = p .1 .1 .1 .1 }) (λ f. (f .headed, (f .marked, (f .nodes, (f .entries, f .chunks)))))
     (says-and (says-headed l) (λ h. says-both (says-marked l)
-    (says-both (says-rows (NodeFormed l) (nodeFormed l) 40 l (atNodes (word l 24)) (word l 32) (word l 8) (omega arith) (λ i b. says-node l (atNodes (word l 24) + 40 * i) (omega arith)))
-    (says-both (says-rows (EntryFormed l) (entryFormed l) 280 l (atEntries (word l 8) (word l 24)) (word l 40) (word l 16) (omega arith) (λ i b. says-entry l (atEntries (word l 8) (word l 24) + 280 * i) (omega arith)))
-    (says-rows (λ _. Unit {0}) (λ _. true) 24 l (atChunks (word l 8) (word l 16) (word l 24)) (word l 48) (word l 24) (omega arith) (λ i b. holds tt))))))
+    (says-both (says-rows (NodeFormed l) (nodeFormed l) nodeRow l (atNodes (word l atChunkRoom)) (word l atNodesUsed) (word l atNodeRoom) (omega arith) (λ i b. says-node l (atNodes (word l atChunkRoom) + nodeRow * i) (omega arith)))
+    (says-both (says-rows (EntryFormed l) (entryFormed l) entryRow l (atEntries (word l atNodeRoom) (word l atChunkRoom)) (word l atEntriesUsed) (word l atEntryRoom) (omega arith) (λ i b. says-entry l (atEntries (word l atNodeRoom) (word l atChunkRoom) + entryRow * i) (omega arith)))
+    (says-rows (λ _. Unit {0}) (λ _. true) chunkRow l (atChunks (word l atNodeRoom) (word l atEntryRoom) (word l atChunkRoom)) (word l atChunksUsed) (word l atChunkRoom) (omega arith) (λ i b. holds tt))))))
 
 pub framed-true : (l : List ℕ) → framed l ≡ true → Framed l
 framed-true l e = says-true (says-framed l) e
@@ -72,11 +74,11 @@ pub counts-over : (a b : Bool) → b ≡ false → false ≡ both a b
 counts-over a b e = rw e (sym (both-false a))
 
 -- the place that a header's rooms give, where the rest of it holds
-pub header-place : (l : List ℕ) {n e c : ℕ} {r : Place} → leb 64 (length l) ≡ true → eqb (word l 0) form ≡ true → n ≡ word l 8 → e ≡ word l 16 → c ≡ word l 24 → r ≡ placeOf n e c (length l)
-    → true ≡ both (leb (word l 32) (word l 8)) (both (leb (word l 40) (word l 16)) (leb (word l 48) (word l 24))) → r ≡ placeIf (headed l) (layoutIn l)
+pub header-place : (l : List ℕ) {n e c : ℕ} {r : Place} → leb 64 (length l) ≡ true → eqb (word l atForm) form ≡ true → n ≡ word l atNodeRoom → e ≡ word l atEntryRoom → c ≡ word l atChunkRoom → r ≡ placeOf n e c (length l)
+    → true ≡ both (leb (word l atNodesUsed) (word l atNodeRoom)) (both (leb (word l atEntriesUsed) (word l atEntryRoom)) (leb (word l atChunksUsed) (word l atChunkRoom))) → r ≡ placeIf (headed l) (layoutIn l)
 unfolding headed
 header-place l a f p q t h k =
-    let x : placed (word l 8) (word l 16) (word l 24) (length l) ≡ headed l = go-on _ _ a (go-on _ _ f (both-yes _ _ (sym k))) in
+    let x : placed (word l atNodeRoom) (word l atEntryRoom) (word l atChunkRoom) (length l) ≡ headed l = go-on _ _ a (go-on _ _ f (both-yes _ _ (sym k))) in
     h ∙ rw (p, q, t) (ap (λ b. placeIf b (layoutIn l)) x)
   where
     both-yes : (a b : Bool) → b ≡ true → a ≡ both a b
@@ -95,7 +97,7 @@ rows-at row s l p q t e = e ∙ rw (p, q, t)
 pub marked-lent : (l : List ℕ) → Headed l → {y : Layout} {r : Bool} → y ≡ layoutIn l → r ≡ wellMarked (take (y .nodes - 64) (drop 64 l)) → r ≡ marked l
 unfolding marked wellMarked part
 marked-lent l h {y} e q =
-    let k : y .nodes - 64 ≡ 128 + 8 * word l 24 = omega (arith, ap (λ z. z .nodes) e) in
-    let w : List ℕ = part l 64 (128 + 8 * word l 24) in
-    let n : length w / 8 - 16 ≡ word l 24 = rw (length-part l 64 (128 + 8 * word l 24) (omega (arith, h .placed .long))) (omega arith) in
-    q ∙ rw (k, num-part 8 l 64 (128 + 8 * word l 24) 0 (omega arith), num-part 8 l 64 (128 + 8 * word l 24) 8 (omega arith), num-part 8 l 64 (128 + 8 * word l 24) 16 (omega arith), n)
+    let k : y .nodes - 64 ≡ 128 + 8 * word l atChunkRoom = omega (arith, ap (λ z. z .nodes) e) in
+    let w : List ℕ = part l 64 (128 + 8 * word l atChunkRoom) in
+    let n : length w / 8 - 16 ≡ word l atChunkRoom = rw (length-part l 64 (128 + 8 * word l atChunkRoom) (omega (arith, h .placed .long))) (omega arith) in
+    q ∙ rw (k, num-part 8 l 64 (128 + 8 * word l atChunkRoom) 0 (omega arith), num-part 8 l 64 (128 + 8 * word l atChunkRoom) 8 (omega arith), num-part 8 l 64 (128 + 8 * word l atChunkRoom) 16 (omega arith), n)

@@ -21,6 +21,7 @@ use Rattle.allocator.specs.Pointers.{due}
 use Rattle.allocator.specs.Allocator.{Allocator, free, readAllocator, readWord}
 use Rattle.allocator.proofs.Accounts.{due-facts, due-one, due-none}
 use Rattle.allocator.proofs.Laid.{first-word}
+use Rattle.volume.specs.Header.{atChunkRoom}
 use Rattle.volume.specs.declared.ChunkRow.{ChunkRow}
 use Rattle.volume.specs.Rows.{readChunk}
 use Rattle.volume.specs.declared.Layout.{Layout}
@@ -114,13 +115,13 @@ module _ (l : List ℕ) (y : Layout) (r : Ready l y) where
   abbrev allocator : Allocator
   allocator = shown l .store .allocator
 
-  count-fits : allocator .freeCount ≤ word l 24
+  count-fits : allocator .freeCount ≤ word l atChunkRoom
   count-fits = unfold shown in r .formed .fits .store .free
 
   pub count-room : 128 + 8 * allocator .freeCount ≤ length (lentWords l y r)
   count-room = omega (arith, lent-long l y r, count-fits)
 
-  rows-of-words : length (allocator .words) ≡ word l 24
+  rows-of-words : length (allocator .words) ≡ word l atChunkRoom
   rows-of-words = unfold shown in r .formed .fits .store .words
 
   free-length : length (free allocator) ≡ allocator .freeCount

@@ -9,19 +9,21 @@ use Rattle.words.specs.Bytes.{word, part}
 use Rattle.words.specs.Rules.{both, upto, allZero}
 use Rattle.allocator.specs.Sizes.{acceptedSize}
 use Rattle.allocator.specs.Allocator.{marker}
+use Rattle.volume.specs.Header.{atChunkRoom, atChunkSize, atChunksUsed, atEntriesUsed, atEntryRoom, atForm, atFreeCount, atMarker, atNodeRoom, atNodesUsed}
 use Rattle.volume.specs.Volume.{form, atNodes, atEntries, atChunks}
 use Rattle.volume.specs.Geometry.{placed}
+use Rattle.volume.specs.Rows.{nodeRow, entryRow, chunkRow}
 use Rattle.volume.specs.RowTests.{nodeFormed, entryFormed}
 
 -- the form, the geometry and the length, used counts that fit
 unfoldable pub headed : List ℕ → Bool
 headed l =
-    both (leb 64 (length l)) (both (eqb (word l 0) form) (both (placed (word l 8) (word l 16) (word l 24) (length l))
-    (both (leb (word l 32) (word l 8)) (both (leb (word l 40) (word l 16)) (leb (word l 48) (word l 24))))))
+    both (leb 64 (length l)) (both (eqb (word l atForm) form) (both (placed (word l atNodeRoom) (word l atEntryRoom) (word l atChunkRoom) (length l))
+    (both (leb (word l atNodesUsed) (word l atNodeRoom)) (both (leb (word l atEntriesUsed) (word l atEntryRoom)) (leb (word l atChunksUsed) (word l atChunkRoom))))))
 
 -- the allocator's marker, chunk size and free count
 unfoldable pub marked : List ℕ → Bool
-marked l = both (eqb (word l 64) marker) (both (acceptedSize (word l 72)) (leb (word l 80) (word l 24)))
+marked l = both (eqb (word l atMarker) marker) (both (acceptedSize (word l atChunkSize)) (leb (word l atFreeCount) (word l atChunkRoom)))
 
 -- rows of s bytes in use, and zeros behind them
 unfoldable pub rowsFormed : (ℕ → Bool) → ℕ → List ℕ → ℕ → ℕ → ℕ → Bool
@@ -31,9 +33,9 @@ rowsFormed row s l at used room = both (upto used (λ i. row (at + s * i))) (all
 unfoldable pub formed : List ℕ → Bool
 formed l =
     both (marked l)
-    (both (rowsFormed (nodeFormed l) 40 l (atNodes (word l 24)) (word l 32) (word l 8))
-    (both (rowsFormed (entryFormed l) 280 l (atEntries (word l 8) (word l 24)) (word l 40) (word l 16))
-    (rowsFormed (λ _. true) 24 l (atChunks (word l 8) (word l 16) (word l 24)) (word l 48) (word l 24))))
+    (both (rowsFormed (nodeFormed l) nodeRow l (atNodes (word l atChunkRoom)) (word l atNodesUsed) (word l atNodeRoom))
+    (both (rowsFormed (entryFormed l) entryRow l (atEntries (word l atNodeRoom) (word l atChunkRoom)) (word l atEntriesUsed) (word l atEntryRoom))
+    (rowsFormed (λ _. true) chunkRow l (atChunks (word l atNodeRoom) (word l atEntryRoom) (word l atChunkRoom)) (word l atChunksUsed) (word l atChunkRoom))))
 
 unfoldable pub framed : List ℕ → Bool
 framed l = both (headed l) (formed l)

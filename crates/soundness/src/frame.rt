@@ -6,6 +6,7 @@ ghost use mathlib.Core.Bool.{true};
 ghost use Prim.Native.Nat.{_+_, _*_, _≤_};
 ghost use lib.ListN.{length};
 ghost use Rattle.words.specs.Rules.{upto};
+ghost use Rattle.volume.specs.Rows.{chunkRow, entryRow, nodeRow};
 ghost use Rattle.volume.specs.Geometry.{layoutIn, placeIf};
 ghost use Rattle.volume.specs.Framed.{Headed};
 ghost use Rattle.volume.specs.RowTests.{nodeFormed, entryFormed};
@@ -52,8 +53,8 @@ fn is_marked(volume: &[u8], layout: Layout) -> bool
 
 // Whether the node rows in use have the form of one.
 fn node_rows(volume: &[u8], base: usize, used: usize) -> bool
-    requires { ⌜ base + 40 * used ≤ length (now volume) ⌝ }
-    ensures { λ r. ⌜ r ≡ upto used (λ i. nodeFormed (now (volume .entry)) (base + 40 * i)) ⌝ }
+    requires { ⌜ base + nodeRow * used ≤ length (now volume) ⌝ }
+    ensures { λ r. ⌜ r ≡ upto used (λ i. nodeFormed (now (volume .entry)) (base + nodeRow * i)) ⌝ }
 {
     let mut i = 0;
     while i < used {
@@ -67,8 +68,8 @@ fn node_rows(volume: &[u8], base: usize, used: usize) -> bool
 
 // Whether the node rows in use have the form of one, and the others are zero.
 fn nodes_formed(volume: &[u8], base: usize, used: usize, room: usize) -> bool
-    requires { ⌜ (used ≤ room) × (base + 40 * room ≤ length (now volume)) ⌝ }
-    ensures { λ r. ⌜ r ≡ rowsFormed (nodeFormed (now (volume .entry))) 40 (now (volume .entry)) base used room ⌝ }
+    requires { ⌜ (used ≤ room) × (base + nodeRow * room ≤ length (now volume)) ⌝ }
+    ensures { λ r. ⌜ r ≡ rowsFormed (nodeFormed (now (volume .entry))) nodeRow (now (volume .entry)) base used room ⌝ }
 {
     if !node_rows(volume, base, used) {
         return false;
@@ -80,8 +81,8 @@ fn nodes_formed(volume: &[u8], base: usize, used: usize, room: usize) -> bool
 
 // Whether the entry rows in use have the form of one.
 fn entry_rows(volume: &[u8], base: usize, used: usize) -> bool
-    requires { ⌜ base + 280 * used ≤ length (now volume) ⌝ }
-    ensures { λ r. ⌜ r ≡ upto used (λ i. entryFormed (now (volume .entry)) (base + 280 * i)) ⌝ }
+    requires { ⌜ base + entryRow * used ≤ length (now volume) ⌝ }
+    ensures { λ r. ⌜ r ≡ upto used (λ i. entryFormed (now (volume .entry)) (base + entryRow * i)) ⌝ }
 {
     let mut i = 0;
     while i < used {
@@ -95,8 +96,8 @@ fn entry_rows(volume: &[u8], base: usize, used: usize) -> bool
 
 // Whether the entry rows in use have the form of one, and the others are zero.
 fn entries_formed(volume: &[u8], base: usize, used: usize, room: usize) -> bool
-    requires { ⌜ (used ≤ room) × (base + 280 * room ≤ length (now volume)) ⌝ }
-    ensures { λ r. ⌜ r ≡ rowsFormed (entryFormed (now (volume .entry))) 280 (now (volume .entry)) base used room ⌝ }
+    requires { ⌜ (used ≤ room) × (base + entryRow * room ≤ length (now volume)) ⌝ }
+    ensures { λ r. ⌜ r ≡ rowsFormed (entryFormed (now (volume .entry))) entryRow (now (volume .entry)) base used room ⌝ }
 {
     if !entry_rows(volume, base, used) {
         return false;
@@ -108,8 +109,8 @@ fn entries_formed(volume: &[u8], base: usize, used: usize, room: usize) -> bool
 
 // Whether the chunk rows that are not in use are zero. The others may have any bytes: what they say is for the rules of the rows.
 fn chunks_formed(volume: &[u8], base: usize, used: usize, room: usize) -> bool
-    requires { ⌜ (used ≤ room) × (base + 24 * room ≤ length (now volume)) ⌝ }
-    ensures { λ r. ⌜ r ≡ rowsFormed (λ _. true) 24 (now (volume .entry)) base used room ⌝ }
+    requires { ⌜ (used ≤ room) × (base + chunkRow * room ≤ length (now volume)) ⌝ }
+    ensures { λ r. ⌜ r ≡ rowsFormed (λ _. true) chunkRow (now (volume .entry)) base used room ⌝ }
 {
     let rest = base + volume::CHUNK_ROW * used;
     let unused = volume::CHUNK_ROW * (room - used);

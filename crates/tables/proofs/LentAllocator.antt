@@ -14,6 +14,7 @@ use Rattle.allocator.specs.Allocator.{Allocator, Step, readAllocator, layAlloca
 use Rattle.allocator.specs.Words as AllocatorWords
 use Rattle.allocator.proofs.Sizes.{accepted-bounds}
 use Rattle.allocator.proofs.Allocated.{allocate-rest}
+use Rattle.volume.specs.Header.{atChunkRoom}
 use Rattle.volume.specs.declared.Layout.{Layout}
 use Rattle.volume.specs.Framed.{Framed}
 use Rattle.volume.specs.Volume.{shown, laid, withAllocator, onStore}
@@ -51,10 +52,10 @@ size-keeps s a = keeps-either a _ _ _ (keeps-either a _ _ _ (same a) (keeps-eith
 module _ (l : List ℕ) (y : Layout) (r : Ready l y) where
   -- the allocator's words
   abbrev pub wordsIn : List ℕ
-  wordsIn = part l 64 (128 + 8 * word l 24)
+  wordsIn = part l 64 (128 + 8 * word l atChunkRoom)
 
-  pub words-long : length wordsIn ≡ 128 + 8 * word l 24
-  words-long = length-part l 64 (128 + 8 * word l 24) (omega (arith, rooms l y r))
+  pub words-long : length wordsIn ≡ 128 + 8 * word l atChunkRoom
+  words-long = length-part l 64 (128 + 8 * word l atChunkRoom) (omega (arith, rooms l y r))
 
   -- the part that is lent of the volume
   abbrev pub lentWords : List ℕ
@@ -62,9 +63,9 @@ module _ (l : List ℕ) (y : Layout) (r : Ready l y) where
 
   pub words-lent : lentWords ≡ wordsIn
   unfolding part
-  words-lent = let e : y .nodes - 64 ≡ 128 + 8 * word l 24 = omega (arith, rooms l y r) in rw e
+  words-lent = let e : y .nodes - 64 ≡ 128 + 8 * word l atChunkRoom = omega (arith, rooms l y r) in rw e
 
-  pub lent-long : length lentWords ≡ 128 + 8 * word l 24
+  pub lent-long : length lentWords ≡ 128 + 8 * word l atChunkRoom
   lent-long = ap length words-lent ∙ words-long
 
   pub lent-read : readAllocator lentWords ≡ shown l .store .allocator
@@ -99,7 +100,7 @@ module _ (l : List ℕ) (y : Layout) (r : Ready l y) where
       let n : y .nodes - 64 ≡ 64 + length (layAllocator a) - 64 = omega (arith, rooms l y r, length-allocator (onStore (withAllocator a) v) (spaced-allocator v (spaced v f) a u w), room) in
       rw n (lent-at l 64 (length (layAllocator a)) m (layAllocator a) e refl ∙ rw (r .formed .same) at (write-allocator v (spaced v f) a u w))
     where
-      room : shown l .store .chunkRoom ≡ word l 24
+      room : shown l .store .chunkRoom ≡ word l atChunkRoom
       room = unfold shown in refl
 
   pub allocated : {p : ℕ} {m : List ℕ} → (p ≡ allocate (readAllocator lentWords) .pointer) × (m ≡ layAllocator (allocate (readAllocator lentWords) .after))

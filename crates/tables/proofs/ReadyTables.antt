@@ -14,7 +14,7 @@ use Rattle.words.proofs.Tables.{table-at}
 use Rattle.words.proofs.Search.{asc-falls}
 use Rattle.words.proofs.Areas.{Counted, write-row, append-row, insert-row, remove-rows}
 use Rattle.volume.specs.declared.Layout.{Layout}
-use Rattle.volume.specs.Rows.{readNode, readEntry, readChunk, layNode, layEntry, layChunk}
+use Rattle.volume.specs.Rows.{readNode, readEntry, readChunk, layNode, layEntry, layChunk, chunkRow, entryRow, nodeRow}
 use Rattle.volume.specs.Volume.{shown, laid, withNext, withNodes, withEntries, withChunks, onNames, onStore}
 use Rattle.volume.proofs.RowBytes.{node-at}
 use Rattle.volume.proofs.Laid.{Spaced, spaced, nodes-counted, entries-counted, chunks-counted}
@@ -36,7 +36,7 @@ module _ (l : List ℕ) (y : Layout) (r : Ready l y) where
   areas : Spaced (shown l)
   areas = spaced (shown l) (r .formed .fits)
 
-  pub node-table : TableIn l readNode layNode 40 (y .nodes) (shown l .names .nodeRoom) 32 (shown l .names .nodes) (λ rs. laid (onNames (withNodes rs) (shown l)))
+  pub node-table : TableIn l readNode layNode nodeRow (y .nodes) (shown l .names .nodeRoom) 32 (shown l .names .nodes) (λ rs. laid (onNames (withNodes rs) (shown l)))
   node-table = record {
     counted = rw (r .layout) (nodes-counted (shown l) areas);
     same = sym (r .formed .same);
@@ -44,7 +44,7 @@ module _ (l : List ℕ) (y : Layout) (r : Ready l y) where
     ends = omega (arith, rooms l y r, told l (r .formed));
   }
 
-  pub entry-table : TableIn l readEntry layEntry 280 (y .entries) (shown l .names .entryRoom) 40 (shown l .names .entries) (λ rs. laid (onNames (withEntries rs) (shown l)))
+  pub entry-table : TableIn l readEntry layEntry entryRow (y .entries) (shown l .names .entryRoom) 40 (shown l .names .entries) (λ rs. laid (onNames (withEntries rs) (shown l)))
   entry-table = record {
     counted = rw (r .layout) (entries-counted (shown l) areas);
     same = sym (r .formed .same);
@@ -52,7 +52,7 @@ module _ (l : List ℕ) (y : Layout) (r : Ready l y) where
     ends = omega (arith, rooms l y r, told l (r .formed));
   }
 
-  pub chunk-table : TableIn l readChunk layChunk 24 (y .chunks) (shown l .store .chunkRoom) 48 (shown l .store .chunks) (λ rs. laid (onStore (withChunks rs) (shown l)))
+  pub chunk-table : TableIn l readChunk layChunk chunkRow (y .chunks) (shown l .store .chunkRoom) 48 (shown l .store .chunks) (λ rs. laid (onStore (withChunks rs) (shown l)))
   chunk-table = record {
     counted = rw (r .layout) (chunks-counted (shown l) areas);
     same = sym (r .formed .same);
@@ -123,5 +123,5 @@ module _ {l : List ℕ} {R : Type 0} {read : List ℕ → R} {lay : R → List �
   row-removed p used {m} {o} {q} eu h em eo eq = rw (mul-one s) at (rows-removed p 1 used {m = m} {o = o} {q = q} eu (omega arith)) em eo eq
 
 -- a node's number, read by itself
-pub node-key : (l : List ℕ) (y : Layout) (r : Ready l y) (i : ℕ) {x : ℕ} → i < length (shown l .names .nodes) → x ≡ word l (y .nodes + 40 * i) → x ≡ nodeAt (shown l .names .nodes) i .node
-node-key l y r i h q = q ∙ ap (λ a. a .node) (sym (node-at l (y .nodes + 40 * i)) ∙ row-there (node-table l y r) i h refl)
+pub node-key : (l : List ℕ) (y : Layout) (r : Ready l y) (i : ℕ) {x : ℕ} → i < length (shown l .names .nodes) → x ≡ word l (y .nodes + nodeRow * i) → x ≡ nodeAt (shown l .names .nodes) i .node
+node-key l y r i h q = q ∙ ap (λ a. a .node) (sym (node-at l (y .nodes + nodeRow * i)) ∙ row-there (node-table l y r) i h refl)

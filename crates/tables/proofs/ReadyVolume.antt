@@ -8,8 +8,9 @@ use lib.ListN.{length, length-drop}
 use Rattle.words.specs.Bytes.{word, num}
 use Rattle.words.proofs.Tables.{length-table}
 use Rattle.types.specs.Sizes.{nameRoom}
+use Rattle.volume.specs.Header.{atChunkRoom, atChunksUsed, atEntriesUsed, atEntryRoom, atNodeRoom, atNodesUsed}
 use Rattle.volume.specs.declared.Layout.{Layout}
-use Rattle.volume.specs.Rows.{readNode, readEntry, readChunk}
+use Rattle.volume.specs.Rows.{readNode, readEntry, readChunk, chunkRow, entryRow, nodeRow}
 use Rattle.volume.specs.Volume.{Store, Volume, atBytes, atChunks, atEntries, atNodes, laid, shown, withStore}
 use Rattle.volume.specs.Framed.{Fits, StoreFits, Framed}
 use Rattle.volume.proofs.Laid.{shown-laid}
@@ -18,34 +19,34 @@ use Rattle.tables.specs.Tables.{Ready, layoutAt}
 
 -- what omega needs
 pub record Rooms (l : List ℕ) (y : Layout) : Type 0 where
-  pub nodes : y .nodes ≡ 192 + 8 * word l 24
-  pub entries : y .entries ≡ 192 + 8 * word l 24 + 40 * word l 8
-  pub chunks : y .chunks ≡ 192 + 8 * word l 24 + 40 * word l 8 + 280 * word l 16
-  pub area : y .area ≡ 192 + 8 * word l 24 + 40 * word l 8 + 280 * word l 16 + 24 * word l 24
-  pub long : 192 + 8 * word l 24 + 40 * word l 8 + 280 * word l 16 + 24 * word l 24 + 65536 ≤ length l
-  pub nodeRoom : word l 8 ≤ 4096
-  pub entryRoom : word l 16 ≤ 4096
-  pub chunkRoom : word l 24 ≤ 4096
-  pub nodesUsed : word l 32 ≤ word l 8
-  pub entriesUsed : word l 40 ≤ word l 16
-  pub chunksUsed : word l 48 ≤ word l 24
+  pub nodes : y .nodes ≡ 192 + 8 * word l atChunkRoom
+  pub entries : y .entries ≡ 192 + 8 * word l atChunkRoom + nodeRow * word l atNodeRoom
+  pub chunks : y .chunks ≡ 192 + 8 * word l atChunkRoom + nodeRow * word l atNodeRoom + entryRow * word l atEntryRoom
+  pub area : y .area ≡ 192 + 8 * word l atChunkRoom + nodeRow * word l atNodeRoom + entryRow * word l atEntryRoom + chunkRow * word l atChunkRoom
+  pub long : 192 + 8 * word l atChunkRoom + nodeRow * word l atNodeRoom + entryRow * word l atEntryRoom + chunkRow * word l atChunkRoom + 65536 ≤ length l
+  pub nodeRoom : word l atNodeRoom ≤ 4096
+  pub entryRoom : word l atEntryRoom ≤ 4096
+  pub chunkRoom : word l atChunkRoom ≤ 4096
+  pub nodesUsed : word l atNodesUsed ≤ word l atNodeRoom
+  pub entriesUsed : word l atEntriesUsed ≤ word l atEntryRoom
+  pub chunksUsed : word l atChunksUsed ≤ word l atChunkRoom
 
 module _ (l : List ℕ) where
-  pub count-nodes : length (shown l .names .nodes) ≡ word l 32
+  pub count-nodes : length (shown l .names .nodes) ≡ word l atNodesUsed
   unfolding shown
-  count-nodes = length-table readNode 40 l (atNodes (word l 24)) (word l 32)
+  count-nodes = length-table readNode nodeRow l (atNodes (word l atChunkRoom)) (word l atNodesUsed)
 
-  pub count-entries : length (shown l .names .entries) ≡ word l 40
+  pub count-entries : length (shown l .names .entries) ≡ word l atEntriesUsed
   unfolding shown
-  count-entries = length-table readEntry 280 l (atEntries (word l 8) (word l 24)) (word l 40)
+  count-entries = length-table readEntry entryRow l (atEntries (word l atNodeRoom) (word l atChunkRoom)) (word l atEntriesUsed)
 
-  pub count-chunks : length (shown l .store .chunks) ≡ word l 48
+  pub count-chunks : length (shown l .store .chunks) ≡ word l atChunksUsed
   unfolding shown
-  count-chunks = length-table readChunk 24 l (atChunks (word l 8) (word l 16) (word l 24)) (word l 48)
+  count-chunks = length-table readChunk chunkRow l (atChunks (word l atNodeRoom) (word l atEntryRoom) (word l atChunkRoom)) (word l atChunksUsed)
 
-  pub count-bytes : length (shown l .store .bytes) ≡ length l - atBytes (word l 8) (word l 16) (word l 24)
+  pub count-bytes : length (shown l .store .bytes) ≡ length l - atBytes (word l atNodeRoom) (word l atEntryRoom) (word l atChunkRoom)
   unfolding shown
-  count-bytes = length-drop (atBytes (word l 8) (word l 16) (word l 24)) l
+  count-bytes = length-drop (atBytes (word l atNodeRoom) (word l atEntryRoom) (word l atChunkRoom)) l
 
   module _ (y : Layout) (r : Ready l y) where
     pub rooms : Rooms l y
@@ -68,7 +69,7 @@ module _ (l : List ℕ) where
         }
 
 -- the name of the entry in row i has its place in the row
-pub name-there : (l : List ℕ) (y : Layout) (r : Ready l y) (i : ℕ) → i < length (shown l .names .entries) → num 4 l (y .entries + 280 * i + 20) ≤ nameRoom
+pub name-there : (l : List ℕ) (y : Layout) (r : Ready l y) (i : ℕ) → i < length (shown l .names .entries) → num 4 l (y .entries + entryRow * i + 20) ≤ nameRoom
 name-there l y r i h =
     let g : Framed l = rw (r .formed .same) at (framed-laid (shown l) (r .formed .fits)) in
     rw (rooms l y r .entries) (omega (arith, g .entries .rows i (omega (arith, count-entries l)) .most))
@@ -77,7 +78,7 @@ name-there l y r i h =
 
 pub area-long : (l : List ℕ) (y : Layout) (r : Ready l y) → length l - y .area ≡ length (shown l .store .bytes)
 unfolding shown
-area-long l y r = rw (rooms l y r .area) (sym (length-drop (atBytes (word l 8) (word l 16) (word l 24)) l))
+area-long l y r = rw (rooms l y r .area) (sym (length-drop (atBytes (word l atNodeRoom) (word l atEntryRoom) (word l atChunkRoom)) l))
 
 -- ---- a volume that fits, laid out
 

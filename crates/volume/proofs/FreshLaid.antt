@@ -18,7 +18,7 @@ use Rattle.types.specs.declared.Error.the-variants.{InvalidArgument}
 use Rattle.types.specs.declared.NodeRecord.{NodeRecord}
 use Rattle.allocator.specs.Sizes.{acceptedSize}
 use Rattle.allocator.specs.Allocator.{layAllocator, wordsOf, marker}
-use Rattle.volume.specs.Rows.{layNode, layEntry, layChunk}
+use Rattle.volume.specs.Rows.{layNode, layEntry, layChunk, chunkRow, entryRow, nodeRow}
 use Rattle.volume.specs.Volume.{form, laid, atNodes, atBytes}
 use Rattle.volume.specs.Framed.{Placed}
 use Rattle.volume.specs.Geometry.{placed}
@@ -43,22 +43,22 @@ module _ (n e c s : ℕ) where
       ∙ ap (λ (r : List ℕ). layWords (marker ∷ s ∷ []) ++ r) (words-zero (14 + c) ∙ ap zeros k)
 
   -- a new volume's bytes, in four
-  pub fresh-laid : (a : ℕ) → laid (fresh n e c s a) ≡ layWords firsts ++ (zeros (112 + 8 * c) ++ (layNode root ++ zeros (40 * (n - 1) + (280 * e + (24 * c + a)))))
+  pub fresh-laid : (a : ℕ) → laid (fresh n e c s a) ≡ layWords firsts ++ (zeros (112 + 8 * c) ++ (layNode root ++ zeros (nodeRow * (n - 1) + (entryRow * e + (chunkRow * c + a)))))
   unfolding laid fresh joined
   fresh-laid a =
       let eight = form ∷ n ∷ e ∷ c ∷ 1 ∷ 0 ∷ 0 ∷ 1 ∷ [] in
       let f : layWords firsts ≡ layWords eight ++ layWords (marker ∷ s ∷ []) = layAll-append (spell 8) eight (marker ∷ s ∷ []) in
-      let r : area layNode 40 n (root ∷ []) ≡ layNode root ++ zeros (40 * (n - 1)) = unfold area layAll in rw append-nil in
-      let z : zeros (40 * (n - 1)) ++ (zeros (280 * e) ++ (zeros (24 * c) ++ (zeros a ++ []))) ≡ zeros (40 * (n - 1) + (280 * e + (24 * c + a))) =
-      rw (append-nil, zeros-add (24 * c) a, zeros-add (280 * e) (24 * c + a), zeros-add (40 * (n - 1)) (280 * e + (24 * c + a))) in
-      rw (f, ← z, allocator-laid, r, area-nil layEntry 280 e, area-nil layChunk 24 c) (simp append-assoc)
+      let r : area layNode nodeRow n (root ∷ []) ≡ layNode root ++ zeros (nodeRow * (n - 1)) = unfold area layAll in rw append-nil in
+      let z : zeros (nodeRow * (n - 1)) ++ (zeros (entryRow * e) ++ (zeros (chunkRow * c) ++ (zeros a ++ []))) ≡ zeros (nodeRow * (n - 1) + (entryRow * e + (chunkRow * c + a))) =
+      rw (append-nil, zeros-add (chunkRow * c) a, zeros-add (entryRow * e) (chunkRow * c + a), zeros-add (nodeRow * (n - 1)) (entryRow * e + (chunkRow * c + a))) in
+      rw (f, ← z, allocator-laid, r, area-nil layEntry entryRow e, area-nil layChunk chunkRow c) (simp append-assoc)
 
   -- the three writes
   pub fresh-written : (l : List ℕ) (at : ℕ) {row : NodeRecord} {m k r : List ℕ} → Placed n e c (length l) → at ≡ atNodes c → row ≡ root
       → m ≡ over l 0 (zeros (length l)) → k ≡ over m 0 (layWords firsts) → r ≡ over k at (layNode row) → r ≡ freshLaid n e c s (length l)
   unfolding freshLaid
   fresh-written l at p q t u v w =
-      let rest = 40 * (n - 1) + (280 * e + (24 * c + (length l - atBytes n e c))) in
+      let rest = nodeRow * (n - 1) + (entryRow * e + (chunkRow * c + (length l - atBytes n e c))) in
       let cut : zeros (length l) ≡ zeros 80 ++ (zeros (112 + 8 * c) ++ (zeros 40 ++ zeros rest)) =
       rw (zeros-add 40 rest, zeros-add (112 + 8 * c) (40 + rest), zeros-add 80 (112 + 8 * c + (40 + rest))) (ap zeros (omega (arith, p .nodes, p .long))) in
       let a : over (zeros 80 ++ (zeros (112 + 8 * c) ++ (zeros 40 ++ zeros rest))) 0 (layWords firsts) ≡ layWords firsts ++ (zeros (112 + 8 * c) ++ (zeros 40 ++ zeros rest)) =

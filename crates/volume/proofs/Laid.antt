@@ -14,7 +14,8 @@ use Rattle.words.proofs.Numbers.{length-spell, num-part, num-below, bytes-part}
 use Rattle.words.proofs.Order.{each-map, each-at}
 use Rattle.words.proofs.Tables.{length-layAll, length-area, length-table, num-words, part-joined, table-area, drop-joined}
 use Rattle.allocator.specs.Allocator.{marker, layAllocator, readAllocator, readWord}
-use Rattle.volume.specs.Rows.{layNode, readNode, layEntry, readEntry, layChunk, readChunk}
+use Rattle.volume.specs.Header.{atChunkRoom, atChunkSize, atChunksUsed, atEntriesUsed, atEntryRoom, atForm, atFreeCount, atMarker, atNextNode, atNextPtr, atNodeRoom, atNodesUsed}
+use Rattle.volume.specs.Rows.{layNode, readNode, layEntry, readEntry, layChunk, readChunk, chunkRow, entryRow, nodeRow}
 use Rattle.volume.specs.Volume.{Volume, form, heads, areas, laid, shown, atNodes, atEntries, atChunks, atBytes, withNodes, withEntries, withChunks, onNames, onStore}
 use Rattle.volume.specs.Framed.{RowsFormed, Framed, Fits, Formed}
 use Rattle.words.proofs.Pieces.{Read, words-again, area-again, each-rows}
@@ -91,9 +92,9 @@ module _ (v : Volume) (f : Spaced v) where
   starts =
       let h = length-layAll (spell 8) 8 (length-spell 8) (heads v) in
       let a = length-allocator in
-      let n = length-area layNode 40 (node-row .sized) (v .names .nodeRoom) (v .names .nodes) (f .nodes) in
-      let e = length-area layEntry 280 (entry-row .sized) (v .names .entryRoom) (v .names .entries) (f .entries) in
-      let c = length-area layChunk 24 (chunk-row .sized) (v .store .chunkRoom) (v .store .chunks) (f .chunks) in
+      let n = length-area layNode nodeRow (node-row .sized) (v .names .nodeRoom) (v .names .nodes) (f .nodes) in
+      let e = length-area layEntry entryRow (entry-row .sized) (v .names .entryRoom) (v .names .entries) (f .entries) in
+      let c = length-area layChunk chunkRow (chunk-row .sized) (v .store .chunkRoom) (v .store .chunks) (f .chunks) in
       record { allocator = simp length-append (omega arith); nodes = simp length-append (omega arith); entries = simp length-append (omega arith); chunks = simp length-append (omega arith); bytes = simp length-append (omega arith); long = simp length-append (omega arith) }
 
   -- ---- the tables, each with its count in the header
@@ -104,13 +105,13 @@ module _ (v : Volume) (f : Spaced v) where
   counted i k h b z a r c e w =
       record { heads = heads v; others = drop 1 (areas v); counter = i; which = k; sized = z; inHeads = h; inOthers = b; place = refl; start = a; fits = r; counts = c; stands = e; whole = w }
 
-  pub nodes-counted : Counted layNode 40 (atNodes (v .store .chunkRoom)) (v .names .nodeRoom) 32 (v .names .nodes) (λ rs. laid (onNames (withNodes rs) v))
+  pub nodes-counted : Counted layNode nodeRow (atNodes (v .store .chunkRoom)) (v .names .nodeRoom) 32 (v .names .nodes) (λ rs. laid (onNames (withNodes rs) v))
   nodes-counted = counted 4 1 (omega arith) (omega arith) (node-row .sized) (starts .nodes) (f .nodes) refl refl (λ qs. unfold laid in refl)
 
-  pub entries-counted : Counted layEntry 280 (atEntries (v .names .nodeRoom) (v .store .chunkRoom)) (v .names .entryRoom) 40 (v .names .entries) (λ rs. laid (onNames (withEntries rs) v))
+  pub entries-counted : Counted layEntry entryRow (atEntries (v .names .nodeRoom) (v .store .chunkRoom)) (v .names .entryRoom) 40 (v .names .entries) (λ rs. laid (onNames (withEntries rs) v))
   entries-counted = counted 5 2 (omega arith) (omega arith) (entry-row .sized) (starts .entries) (f .entries) refl refl (λ qs. unfold laid in refl)
 
-  pub chunks-counted : Counted layChunk 24 (atChunks (v .names .nodeRoom) (v .names .entryRoom) (v .store .chunkRoom)) (v .store .chunkRoom) 48 (v .store .chunks) (λ rs. laid (onStore (withChunks rs) v))
+  pub chunks-counted : Counted layChunk chunkRow (atChunks (v .names .nodeRoom) (v .names .entryRoom) (v .store .chunkRoom)) (v .store .chunkRoom) 48 (v .store .chunks) (λ rs. laid (onStore (withChunks rs) v))
   chunks-counted = counted 6 3 (omega arith) (omega arith) (chunk-row .sized) (starts .chunks) (f .chunks) refl refl (λ qs. unfold laid in refl)
 
   -- ---- what stands where
@@ -130,18 +131,18 @@ module _ (v : Volume) (f : Spaced v) where
 
 -- what the words of bytes say of a volume
 pub record Told (l : List ℕ) (v : Volume) : Type 0 where
-  pub form : word l 0 ≡ form
-  pub nodeRoom : word l 8 ≡ v .names .nodeRoom
-  pub entryRoom : word l 16 ≡ v .names .entryRoom
-  pub chunkRoom : word l 24 ≡ v .store .chunkRoom
-  pub nodes : word l 32 ≡ length (v .names .nodes)
-  pub entries : word l 40 ≡ length (v .names .entries)
-  pub chunks : word l 48 ≡ length (v .store .chunks)
-  pub nextNode : word l 56 ≡ v .names .nextNode
-  pub mark : word l 64 ≡ marker
-  pub chunkSize : word l 72 ≡ v .store .allocator .chunkSize
-  pub freeCount : word l 80 ≡ v .store .allocator .freeCount
-  pub nextPtr : word l 88 ≡ v .store .allocator .nextPtr
+  pub form : word l atForm ≡ form
+  pub nodeRoom : word l atNodeRoom ≡ v .names .nodeRoom
+  pub entryRoom : word l atEntryRoom ≡ v .names .entryRoom
+  pub chunkRoom : word l atChunkRoom ≡ v .store .chunkRoom
+  pub nodes : word l atNodesUsed ≡ length (v .names .nodes)
+  pub entries : word l atEntriesUsed ≡ length (v .names .entries)
+  pub chunks : word l atChunksUsed ≡ length (v .store .chunks)
+  pub nextNode : word l atNextNode ≡ v .names .nextNode
+  pub mark : word l atMarker ≡ marker
+  pub chunkSize : word l atChunkSize ≡ v .store .allocator .chunkSize
+  pub freeCount : word l atFreeCount ≡ v .store .allocator .freeCount
+  pub nextPtr : word l atNextPtr ≡ v .store .allocator .nextPtr
   pub long : length l ≡ atBytes (v .names .nodeRoom) (v .names .entryRoom) (v .store .chunkRoom) + length (v .store .bytes)
 
 module _ (v : Volume) (f : Fits v) where
@@ -197,28 +198,28 @@ unfolding part
 behind l at n to e p q = rw (p, q, e, ← drop-drop n at l, take-append-drop n (drop at l))
 
 -- the allocator's part of what is framed is in the allocator's form
-pub allocator-formed : (l : List ℕ) → Framed l → AllocatorWords.Formed (part l 64 (128 + 8 * word l 24))
+pub allocator-formed : (l : List ℕ) → Framed l → AllocatorWords.Formed (part l 64 (128 + 8 * word l atChunkRoom))
 allocator-formed l f =
-    let c = word l 24 in
+    let c = word l atChunkRoom in
     let n : length (part l 64 (128 + 8 * c)) ≡ 128 + 8 * c = length-part l 64 (128 + 8 * c) (omega (arith, f .headed .placed .long)) in
-    let k : word (part l 64 (128 + 8 * c)) 16 ≡ word l 80 = num-part 8 l 64 (128 + 8 * c) 16 (omega arith) in
+    let k : word (part l 64 (128 + 8 * c)) 16 ≡ word l atFreeCount = num-part 8 l 64 (128 + 8 * c) 16 (omega arith) in
     record { least = rw n (omega arith); whole = rw n (omega arith); count = rw (n, k) (omega (arith, f .marked .free)) }
 
 module _ (l : List ℕ) (y : Bytes l) (f : Framed l) where
   abbrev N : ℕ
-  N = word l 8
+  N = word l atNodeRoom
 
   abbrev E : ℕ
-  E = word l 16
+  E = word l atEntryRoom
 
   abbrev C : ℕ
-  C = word l 24
+  C = word l atChunkRoom
 
   heads-again : layWords (heads (shown l)) ≡ part l 0 64
   unfolding shown
   heads-again =
       words-again l 0 (heads (shown l)) y
-      (unfold Read in (sym (f .headed .formed), (refl, (refl, (refl, (length-table readNode 40 l (atNodes C) (word l 32), (length-table readEntry 280 l (atEntries N C) (word l 40), (length-table readChunk 24 l (atChunks N E C) (word l 48), (refl, tt))))))))) (omega (arith, f .headed .least))
+      (unfold Read in (sym (f .headed .formed), (refl, (refl, (refl, (length-table readNode nodeRow l (atNodes C) (word l atNodesUsed), (length-table readEntry entryRow l (atEntries N C) (word l atEntriesUsed), (length-table readChunk chunkRow l (atChunks N E C) (word l atChunksUsed), (refl, tt))))))))) (omega (arith, f .headed .least))
 
   -- what is framed is laid out again as it stands
   pub laid-shown : laid (shown l) ≡ l
@@ -228,9 +229,9 @@ module _ (l : List ℕ) (y : Bytes l) (f : Framed l) where
       let z = h .placed .long in
       behind l 0 64 64 refl heads-again
       (behind l 64 (128 + 8 * C) (atNodes C) (omega arith) (AllocatorLaid.laid-again (part l 64 (128 + 8 * C)) (bytes-part l 64 (128 + 8 * C) y (omega arith)) (allocator-formed l f))
-      (behind l (atNodes C) (40 * N) (atEntries N C) refl (rows-again node-row l y (atNodes C) (word l 32) N (h .nodes) (omega arith) (f .nodes))
-      (behind l (atEntries N C) (280 * E) (atChunks N E C) refl (rows-again entry-row l y (atEntries N C) (word l 40) E (h .entries) (omega arith) (f .entries))
-      (behind l (atChunks N E C) (24 * C) (atBytes N E C) refl (rows-again chunk-row l y (atChunks N E C) (word l 48) C (h .chunks) (omega arith) (f .chunks)) (append-nil (drop (atBytes N E C) l))))))
+      (behind l (atNodes C) (nodeRow * N) (atEntries N C) refl (rows-again node-row l y (atNodes C) (word l atNodesUsed) N (h .nodes) (omega arith) (f .nodes))
+      (behind l (atEntries N C) (entryRow * E) (atChunks N E C) refl (rows-again entry-row l y (atEntries N C) (word l atEntriesUsed) E (h .entries) (omega arith) (f .entries))
+      (behind l (atChunks N E C) (chunkRow * C) (atBytes N E C) refl (rows-again chunk-row l y (atChunks N E C) (word l atChunksUsed) C (h .chunks) (omega arith) (f .chunks)) (append-nil (drop (atBytes N E C) l))))))
 
   -- and its tables fit
   pub fits-shown : Fits (shown l)
@@ -247,8 +248,8 @@ module _ (l : List ℕ) (y : Bytes l) (f : Framed l) where
           nextNode = num-below 8 l 56 y (omega arith);
           nodes = rw length-table (h .nodes);
           entries = rw length-table (h .entries);
-          nodeRows = rows-fit node-row l y (atNodes C) (word l 32) N (h .nodes) (omega arith) (f .nodes);
-          entryRows = rows-fit entry-row l y (atEntries N C) (word l 40) E (h .entries) (omega arith) (f .entries);
+          nodeRows = rows-fit node-row l y (atNodes C) (word l atNodesUsed) N (h .nodes) (omega arith) (f .nodes);
+          entryRows = rows-fit entry-row l y (atEntries N C) (word l atEntriesUsed) E (h .entries) (omega arith) (f .entries);
         };
         store = record {
           chunkRoom = h .placed .chunks;
@@ -260,7 +261,7 @@ module _ (l : List ℕ) (y : Bytes l) (f : Framed l) where
           small = a .small;
           size = unfold readAllocator in rw (num-part 8 l 64 (128 + 8 * C) 8 (omega arith)) (f .marked .size);
           free = unfold readAllocator in rw (num-part 8 l 64 (128 + 8 * C) 16 (omega arith)) (f .marked .free);
-          chunkRows = rows-fit chunk-row l y (atChunks N E C) (word l 48) C (h .chunks) (omega arith) (f .chunks);
+          chunkRows = rows-fit chunk-row l y (atChunks N E C) (word l atChunksUsed) C (h .chunks) (omega arith) (f .chunks);
         };
       }
 

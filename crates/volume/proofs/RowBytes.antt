@@ -23,7 +23,7 @@ use Rattle.types.specs.declared.Limit.the-variants.{Unlimited, AtMost}
 use Rattle.types.specs.declared.NodeRecord.{NodeRecord}
 use Rattle.volume.proofs.KindBytes.{is-known, kind-of-byte, limit-of-bytes, bytes-of-limit}
 use Rattle.volume.specs.declared.ChunkRow.{ChunkRow}
-use Rattle.volume.specs.Rows.{Entry, kindOr, layNode, readNode, layEntry, readEntry, layChunk, readChunk}
+use Rattle.volume.specs.Rows.{Entry, kindOr, layNode, readNode, layEntry, readEntry, layChunk, readChunk, chunkRow, entryRow, nodeRow}
 use Rattle.volume.specs.Framed.{NodeFormed, EntryFormed, NodeFits, EntryFits, ChunkFits}
 use Rattle.words.proofs.Pieces.{glue, last-part, Read, words-again, spelled}
 
@@ -119,23 +119,23 @@ kind-back (suc (suc (suc b))) h = absurd (omega (arith, h))
 
 module _ (l : List ℕ) (at : ℕ) where
   -- a node's row that is read, by the numbers of the whole
-  pub node-at : readNode (part l at 40) ≡ record { node = word l at; kind = kindOr (kindOf (num 1 l (at + 8))); limit = limitOf (num 1 l (at + 9)) (word l (at + 32)); links = word l (at + 16); size = word l (at + 24) }
+  pub node-at : readNode (part l at nodeRow) ≡ record { node = word l at; kind = kindOr (kindOf (num 1 l (at + 8))); limit = limitOf (num 1 l (at + 9)) (word l (at + 32)); links = word l (at + 16); size = word l (at + 24) }
   unfolding readNode
   node-at = rw (num-part 8 l at 40 0 (omega arith), num-part 1 l at 40 8 (omega arith), num-part 1 l at 40 9 (omega arith), num-part 8 l at 40 16 (omega arith), num-part 8 l at 40 24 (omega arith), num-part 8 l at 40 32 (omega arith), add-zero)
 
   -- and an entry's
-  pub entry-at : num 4 l (at + 20) ≤ nameRoom → readEntry (part l at 280) ≡ record { parent = word l at; node = word l (at + 8); index = num 4 l (at + 16); name = part l (at + 24) (num 4 l (at + 20)) }
+  pub entry-at : num 4 l (at + 20) ≤ nameRoom → readEntry (part l at entryRow) ≡ record { parent = word l at; node = word l (at + 8); index = num 4 l (at + 16); name = part l (at + 24) (num 4 l (at + 20)) }
   unfolding readEntry
   entry-at h = rw (num-part 8 l at 280 0 (omega arith), num-part 8 l at 280 8 (omega arith), num-part 4 l at 280 16 (omega arith), num-part 4 l at 280 20 (omega arith), part-part l at 280 24 (num 4 l (at + 20)) (omega arith), add-zero)
 
   -- and a chunk's
-  pub chunk-at : readChunk (part l at 24) ≡ record { node = word l at; index = word l (at + 8); pointer = word l (at + 16) }
+  pub chunk-at : readChunk (part l at chunkRow) ≡ record { node = word l at; index = word l (at + 8); pointer = word l (at + 16) }
   unfolding readChunk
   chunk-at = rw (num-part 8 l at 24 0 (omega arith), num-part 8 l at 24 8 (omega arith), num-part 8 l at 24 16 (omega arith), add-zero)
 
 module _ (l : List ℕ) (y : Bytes l) (at : ℕ) where
   -- a node's row that is read is laid out as it stands, and fits
-  node-again : at + 40 ≤ length l → NodeFormed l at → (layNode (readNode (part l at 40)) ≡ part l at 40) × NodeFits (readNode (part l at 40))
+  node-again : at + nodeRow ≤ length l → NodeFormed l at → (layNode (readNode (part l at nodeRow)) ≡ part l at 40) × NodeFits (readNode (part l at nodeRow))
   unfolding layNode joined
   node-again h f =
       let b = bytes-of-limit (num 1 l (at + 9)) (word l (at + 32)) (f .limit) in
@@ -151,7 +151,7 @@ module _ (l : List ℕ) (y : Bytes l) (at : ℕ) where
       )
 
   -- and an entry's
-  entry-again : at + 280 ≤ length l → EntryFormed l at → (layEntry (readEntry (part l at 280)) ≡ part l at 280) × EntryFits (readEntry (part l at 280))
+  entry-again : at + entryRow ≤ length l → EntryFormed l at → (layEntry (readEntry (part l at entryRow)) ≡ part l at 280) × EntryFits (readEntry (part l at entryRow))
   unfolding layEntry joined
   entry-again h f =
       let n = num 4 l (at + 20) in
@@ -168,7 +168,7 @@ module _ (l : List ℕ) (y : Bytes l) (at : ℕ) where
       )
 
   -- and a chunk's
-  chunk-again : at + 24 ≤ length l → (layChunk (readChunk (part l at 24)) ≡ part l at 24) × ChunkFits (readChunk (part l at 24))
+  chunk-again : at + 24 ≤ length l → (layChunk (readChunk (part l at chunkRow)) ≡ part l at 24) × ChunkFits (readChunk (part l at chunkRow))
   unfolding layChunk joined layAll Read
   chunk-again h =
       let q : at + 16 ≡ at + 8 + 8 = omega arith in
@@ -203,14 +203,14 @@ module _ (l : List ℕ) (at : ℕ) where
 
 -- ---- the three kinds of rows
 
-pub node-row : Row readNode layNode 40 NodeFits NodeFormed
+pub node-row : Row readNode layNode nodeRow NodeFits NodeFormed
 unfolding layNode joined
 node-row = record { sized = λ r. simp (length-append, length-spell, length-zeros); back = read-node; again = node-again; formed = node-formed }
 
-pub entry-row : Row readEntry layEntry 280 EntryFits EntryFormed
+pub entry-row : Row readEntry layEntry entryRow EntryFits EntryFormed
 unfolding layEntry joined
 entry-row = record { sized = λ e. simp (length-append, length-spell, length-padded); back = read-entry; again = entry-again; formed = entry-formed }
 
-pub chunk-row : Row readChunk layChunk 24 ChunkFits (λ l at. Unit {0})
+pub chunk-row : Row readChunk layChunk chunkRow ChunkFits (λ l at. Unit {0})
 unfolding layChunk joined
 chunk-row = record { sized = λ c. simp (length-append, length-spell); back = read-chunk; again = λ l y at h f. chunk-again l y at h; formed = λ l at r f e. tt }

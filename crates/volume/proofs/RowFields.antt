@@ -20,7 +20,7 @@ use Rattle.volume.specs.declared.kinds.Kind.{Kind}
 use Rattle.types.specs.declared.Limit.{Limit}
 use Rattle.types.specs.declared.NodeRecord.{NodeRecord}
 use Rattle.volume.specs.declared.ChunkRow.{ChunkRow}
-use Rattle.volume.specs.Rows.{kindOr, layNode, readNode, layEntry, readEntry, layChunk, readChunk}
+use Rattle.volume.specs.Rows.{kindOr, layNode, readNode, layEntry, readEntry, layChunk, readChunk, chunkRow, entryRow, nodeRow}
 use Rattle.volume.specs.Search.{pairBefore, nodeUnder, chunkUnder}
 use Rattle.volume.proofs.RowBytes.{node-row, entry-row, node-at, entry-at, chunk-at}
 
@@ -28,22 +28,22 @@ use Rattle.volume.proofs.RowBytes.{node-row, entry-row, node-at, entry-
 
 module _ (l : List ℕ) (at : ℕ) where
   -- the numbers of an entry
-  pub entry-numbers : (readEntry (part l at 280) .parent ≡ word l at) × (readEntry (part l at 280) .node ≡ word l (at + 8)) × (readEntry (part l at 280) .index ≡ num 4 l (at + 16))
+  pub entry-numbers : (readEntry (part l at entryRow) .parent ≡ word l at) × (readEntry (part l at entryRow) .node ≡ word l (at + 8)) × (readEntry (part l at entryRow) .index ≡ num 4 l (at + 16))
   unfolding readEntry
   entry-numbers = (rw (num-part 8 l at 280 0 (omega arith), add-zero), num-part 8 l at 280 8 (omega arith), num-part 4 l at 280 16 (omega arith))
 
   pub node-read : {node byte flag most links size : ℕ} {k : Kind} {kind : FileType} {limit : Limit}
       → byte ≡ num 1 l (at + 8) → flag ≡ num 1 l (at + 9) → k ≡ kindOf byte → kind ≡ kindOr k → most ≡ word l (at + 32) → limit ≡ limitOf flag most
       → node ≡ word l at → links ≡ word l (at + 16) → size ≡ word l (at + 24)
-      → _≡_ {A = NodeRecord} (record { node = node; kind = kind; limit = limit; links = links; size = size }) (readNode (part l at 40))
+      → _≡_ {A = NodeRecord} (record { node = node; kind = kind; limit = limit; links = links; size = size }) (readNode (part l at nodeRow))
   node-read b f k j w m n a s = rw (node-at l at, m, j, k, b, f, w, n, a, s)
 
   pub chunk-read : {node index pointer : ℕ} → node ≡ word l at → index ≡ word l (at + 8) → pointer ≡ word l (at + 16)
-      → _≡_ {A = ChunkRow} (record { node = node; index = index; pointer = pointer }) (readChunk (part l at 24))
+      → _≡_ {A = ChunkRow} (record { node = node; index = index; pointer = pointer }) (readChunk (part l at chunkRow))
   chunk-read n i p = rw (chunk-at l at, n, i, p)
 
   -- a loan of the name's bytes
-  pub name-lent : {size : ℕ} → size ≡ num 4 l (at + 20) → num 4 l (at + 20) ≤ 256 → take (at + 24 + size - (at + 24)) (drop (at + 24) l) ≡ readEntry (part l at 280) .name
+  pub name-lent : {size : ℕ} → size ≡ num 4 l (at + 20) → num 4 l (at + 20) ≤ 256 → take (at + 24 + size - (at + 24)) (drop (at + 24) l) ≡ readEntry (part l at entryRow) .name
   unfolding part
   name-lent {size} e h =
       let k : at + 24 + size - (at + 24) ≡ num 4 l (at + 20) = omega arith in
@@ -73,7 +73,7 @@ padded-written l at room name h k p q =
 
 pub node-written : (l : List ℕ) (at : ℕ) (row : NodeRecord) {byte flag most : ℕ} {m n o p r : List ℕ} → byte ≡ kindByte (row .kind) → flag ≡ limitFlag (row .limit) → most ≡ limitWord (row .limit)
     → m ≡ over l at (spell 8 (row .node)) → n ≡ over m (at + 8) (spell 1 byte) → o ≡ over n (at + 9) (spell 1 flag) → p ≡ over o (at + 10) (zeros 6)
-    → r ≡ over p (at + 16) (layWords (row .links ∷ row .size ∷ most ∷ [])) → at + 40 ≤ length l → r ≡ over l at (layNode row)
+    → r ≡ over p (at + 16) (layWords (row .links ∷ row .size ∷ most ∷ [])) → at + nodeRow ≤ length l → r ≡ over l at (layNode row)
 unfolding layNode
 node-written l at row {m = m} {n = n} {o = o} b f w e₁ e₂ e₃ e₄ e₅ h =
     and-then l at (spell 8 (row .node)) _ 8 (at + 8) (length-spell 8 (row .node)) refl (rw (node-row .sized row) h) e₁
@@ -83,7 +83,7 @@ node-written l at row {m = m} {n = n} {o = o} b f w e₁ e₂ e₃ e₄ e₅ h =
 
 pub entry-written : (l : List ℕ) (at parent node index : ℕ) (name : List ℕ) {m n o p q r : List ℕ}
     → m ≡ over l at (spell 8 parent) → n ≡ over m (at + 8) (spell 8 node) → o ≡ over n (at + 16) (spell 4 index) → p ≡ over o (at + 20) (spell 4 (length name))
-    → q ≡ over p (at + 24) name → r ≡ over q (at + 24 + length name) (zeros (256 - length name)) → at + 280 ≤ length l → length name ≤ 256
+    → q ≡ over p (at + 24) name → r ≡ over q (at + 24 + length name) (zeros (256 - length name)) → at + entryRow ≤ length l → length name ≤ 256
     → r ≡ over l at (layEntry (record { parent = parent; node = node; index = index; name = name }))
 unfolding layEntry
 entry-written l at parent node index name {m = m} {n = n} {o = o} {p = p} e₁ e₂ e₃ e₄ e₅ e₆ h k =
@@ -100,8 +100,8 @@ chunk-written l at row e = rw (three-words (row .node) (row .index) (row .pointe
 -- ---- whether a row stands before a key
 
 module _ (l : List ℕ) (at : ℕ) where
-  pub node-is-under : (n : ℕ) {x : ℕ} {r : Bool} → x ≡ word l at → ltb x n ≡ r → nodeUnder n (readNode (part l at 40)) ≡ r
+  pub node-is-under : (n : ℕ) {x : ℕ} {r : Bool} → x ≡ word l at → ltb x n ≡ r → nodeUnder n (readNode (part l at nodeRow)) ≡ r
   node-is-under n e h = rw (node-at l at, ← e) h
 
-  pub chunk-is-under : (n i : ℕ) {x y : ℕ} {r : Bool} → x ≡ word l at → y ≡ word l (at + 8) → r ≡ pairBefore x y n i → r ≡ chunkUnder n i (readChunk (part l at 24))
+  pub chunk-is-under : (n i : ℕ) {x y : ℕ} {r : Bool} → x ≡ word l at → y ≡ word l (at + 8) → r ≡ pairBefore x y n i → r ≡ chunkUnder n i (readChunk (part l at chunkRow))
   chunk-is-under n i p q e = rw (chunk-at l at, e, p, q)

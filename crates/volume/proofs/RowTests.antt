@@ -13,6 +13,7 @@ use Rattle.words.specs.Rules.{pick, both}
 use Rattle.words.proofs.Rules.{Says, holds, fails, says-map, says-both, says-and, says-eqb, says-leb}
 use Rattle.words.proofs.Blocks.{says-zeros}
 use Rattle.types.specs.Sizes.{mostSize, mostName, nameRoom}
+use Rattle.volume.specs.Rows.{entryRow, nodeRow}
 use Rattle.volume.specs.Framed.{NodeFormed, EntryFormed}
 use Rattle.volume.specs.RowTests.{limitFormed, nodeFormed, entryFormed}
 
@@ -33,13 +34,13 @@ says-limit flag n = go (says-eqb flag 0)
         back (inr p) = p
 
 module _ (l : List ℕ) (at : ℕ) where
-  pub says-node : at + 40 ≤ length l → Says (NodeFormed l at) (nodeFormed l at)
+  pub says-node : at + nodeRow ≤ length l → Says (NodeFormed l at) (nodeFormed l at)
   unfolding nodeFormed
   says-node h =
       says-map (λ p. record { kind = p .0; limit = p .1 .0; spare = p .1 .1 }) (λ f. (f .kind, (f .limit, f .spare)))
       (says-both (says-leb (num 1 l (at + 8)) 2) (says-both (says-limit (num 1 l (at + 9)) (word l (at + 32))) (says-zeros l (at + 10) 6 (omega arith))))
 
-  pub says-entry : at + 280 ≤ length l → Says (EntryFormed l at) (entryFormed l at)
+  pub says-entry : at + entryRow ≤ length l → Says (EntryFormed l at) (entryFormed l at)
   unfolding entryFormed
   says-entry h =
       says-map (λ p. record { least = p .0; most = p .1 .0; rest = p .1 .1 }) (λ f. (f .least, (f .most, f .rest)))

@@ -13,8 +13,9 @@ use Rattle.types.specs.Nodes.{limitWord}
 use Rattle.types.specs.declared.NodeRecord.{NodeRecord}
 use Rattle.allocator.specs.Sizes.{acceptedSize}
 use Rattle.allocator.specs.Allocator.{marker, wordsOf}
+use Rattle.volume.specs.Header.{atChunkRoom, atChunkSize, atChunksUsed, atEntriesUsed, atEntryRoom, atForm, atFreeCount, atMarker, atNodeRoom, atNodesUsed}
 use Rattle.volume.specs.declared.ChunkRow.{ChunkRow}
-use Rattle.volume.specs.Rows.{Entry}
+use Rattle.volume.specs.Rows.{nodeRow, entryRow, chunkRow, Entry}
 use Rattle.volume.specs.Volume.{Names, Store, Volume, form, shown, laid, atNodes, atEntries, atChunks, atBytes}
 
 -- N, E and C are 1 to 4,096, and the length is at least 65,728 + 40N + 280E + 32C
@@ -27,17 +28,17 @@ pub record Placed (n e c size : ℕ) : Type 0 where
 -- the header: form 1, the geometry, used counts that fit
 pub record Headed (l : List ℕ) : Type 0 where
   pub least : 64 ≤ length l
-  pub formed : word l 0 ≡ form
-  pub placed : Placed (word l 8) (word l 16) (word l 24) (length l)
-  pub nodes : word l 32 ≤ word l 8
-  pub entries : word l 40 ≤ word l 16
-  pub chunks : word l 48 ≤ word l 24
+  pub formed : word l atForm ≡ form
+  pub placed : Placed (word l atNodeRoom) (word l atEntryRoom) (word l atChunkRoom) (length l)
+  pub nodes : word l atNodesUsed ≤ word l atNodeRoom
+  pub entries : word l atEntriesUsed ≤ word l atEntryRoom
+  pub chunks : word l atChunksUsed ≤ word l atChunkRoom
 
 -- the allocator's words: the marker, an accepted chunk size, a free count that fits
 pub record Marked (l : List ℕ) : Type 0 where
-  pub mark : word l 64 ≡ marker
-  pub size : acceptedSize (word l 72) ≡ true
-  pub free : word l 80 ≤ word l 24
+  pub mark : word l atMarker ≡ marker
+  pub size : acceptedSize (word l atChunkSize) ≡ true
+  pub free : word l atFreeCount ≤ word l atChunkRoom
 
 -- a node's row: a type, a flag, six zeros, a limit of at most 2^40 that is 0 without the flag
 pub record NodeFormed (l : List ℕ) (at : ℕ) : Type 0 where
@@ -59,9 +60,9 @@ pub record RowsFormed (Row : ℕ → Type 0) (s : ℕ) (l : List ℕ) (at used r
 pub record Framed (l : List ℕ) : Type 0 where
   pub headed : Headed l
   pub marked : Marked l
-  pub nodes : RowsFormed (NodeFormed l) 40 l (atNodes (word l 24)) (word l 32) (word l 8)
-  pub entries : RowsFormed (EntryFormed l) 280 l (atEntries (word l 8) (word l 24)) (word l 40) (word l 16)
-  pub chunks : RowsFormed (λ _. Unit {0}) 24 l (atChunks (word l 8) (word l 16) (word l 24)) (word l 48) (word l 24)
+  pub nodes : RowsFormed (NodeFormed l) nodeRow l (atNodes (word l atChunkRoom)) (word l atNodesUsed) (word l atNodeRoom)
+  pub entries : RowsFormed (EntryFormed l) entryRow l (atEntries (word l atNodeRoom) (word l atChunkRoom)) (word l atEntriesUsed) (word l atEntryRoom)
+  pub chunks : RowsFormed (λ _. Unit {0}) chunkRow l (atChunks (word l atNodeRoom) (word l atEntryRoom) (word l atChunkRoom)) (word l atChunksUsed) (word l atChunkRoom)
 
 -- ---- the same of a volume: what fits into bytes
 

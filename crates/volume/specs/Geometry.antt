@@ -7,6 +7,7 @@ use lib.Dec.{leb}
 use Rattle.words.specs.Bytes.{word}
 use Rattle.words.specs.Rules.{pick, both}
 use Rattle.types.specs.Sizes.{mostRows, leastArea}
+use Rattle.volume.specs.Header.{atChunkRoom, atEntryRoom, atNodeRoom}
 use Rattle.volume.specs.declared.Layout.{Layout}
 use Rattle.volume.specs.declared.Place.{Place}
 use Rattle.volume.specs.declared.Place.the-variants.{At, Nowhere}
@@ -30,4 +31,4 @@ placeOf n e c size = placeIf (placed n e c size) (layoutOf n e c)
 
 -- where a header says that the areas start
 abbrev pub layoutIn : List ℕ → Layout
-layoutIn l = layoutOf (word l 8) (word l 16) (word l 24)
+layoutIn l = layoutOf (word l atNodeRoom) (word l atEntryRoom) (word l atChunkRoom)

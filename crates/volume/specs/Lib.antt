@@ -1,5 +1,6 @@
 pub mod Kinds
 pub mod Rows
+pub mod Header
 pub mod Volume
 pub mod Framed
 pub mod Geometry

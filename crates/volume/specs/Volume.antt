@@ -7,6 +7,7 @@ use Rattle.words.specs.Bytes.{word, part}
 use Rattle.words.specs.Tables.{table, layWords, area, joined}
 use Rattle.types.specs.declared.NodeRecord.{NodeRecord}
 use Rattle.allocator.specs.Allocator.{Allocator, layAllocator, readAllocator}
+use Rattle.volume.specs.Header.{atChunkRoom, atChunksUsed, atEntriesUsed, atEntryRoom, atNextNode, atNodeRoom, atNodesUsed}
 use Rattle.volume.specs.declared.ChunkRow.{ChunkRow}
 use Rattle.volume.specs.Rows.{nodeRow, entryRow, chunkRow, Entry, layNode, readNode, layEntry, readEntry, layChunk, readChunk}
 
@@ -61,28 +62,28 @@ abbrev pub atNodes : ℕ → ℕ
 atNodes c = 192 + 8 * c
 
 abbrev pub atEntries : ℕ → ℕ → ℕ
-atEntries n c = atNodes c + 40 * n
+atEntries n c = atNodes c + nodeRow * n
 
 abbrev pub atChunks : ℕ → ℕ → ℕ → ℕ
-atChunks n e c = atEntries n c + 280 * e
+atChunks n e c = atEntries n c + entryRow * e
 
 abbrev pub atBytes : ℕ → ℕ → ℕ → ℕ
-atBytes n e c = atChunks n e c + 24 * c
+atBytes n e c = atChunks n e c + chunkRow * c
 
 unfoldable pub shown : List ℕ → Volume
 shown l = record {
   names = record {
-    nodeRoom = word l 8;
-    entryRoom = word l 16;
-    nextNode = word l 56;
-    nodes = table readNode 40 l (atNodes (word l 24)) (word l 32);
-    entries = table readEntry 280 l (atEntries (word l 8) (word l 24)) (word l 40);
+    nodeRoom = word l atNodeRoom;
+    entryRoom = word l atEntryRoom;
+    nextNode = word l atNextNode;
+    nodes = table readNode nodeRow l (atNodes (word l atChunkRoom)) (word l atNodesUsed);
+    entries = table readEntry entryRow l (atEntries (word l atNodeRoom) (word l atChunkRoom)) (word l atEntriesUsed);
   };
   store = record {
-    chunkRoom = word l 24;
-    allocator = readAllocator (part l atAllocator (allocatorSize (word l 24)));
-    chunks = table readChunk 24 l (atChunks (word l 8) (word l 16) (word l 24)) (word l 48);
-    bytes = drop (atBytes (word l 8) (word l 16) (word l 24)) l;
+    chunkRoom = word l atChunkRoom;
+    allocator = readAllocator (part l atAllocator (allocatorSize (word l atChunkRoom)));
+    chunks = table readChunk chunkRow l (atChunks (word l atNodeRoom) (word l atEntryRoom) (word l atChunkRoom)) (word l atChunksUsed);
+    bytes = drop (atBytes (word l atNodeRoom) (word l atEntryRoom) (word l atChunkRoom)) l;
   };
 }
 

@@ -8,7 +8,7 @@ ghost use lib.ListN.{length};
 ghost use Rattle.words.specs.Bytes.{part, over};
 ghost use Rattle.words.specs.Tables.{table, lead, Falls};
 ghost use Rattle.types.specs.Sizes.{mostSize};
-ghost use Rattle.volume.specs.Rows.{layChunk, readChunk};
+ghost use Rattle.volume.specs.Rows.{layChunk, readChunk, chunkRow};
 ghost use Rattle.volume.specs.Search.{chunkUnder};
 ghost use Rattle.volume.specs.Sound.{roundUp};
 
@@ -19,8 +19,8 @@ const POINTER: usize = 16;
 
 // The chunk whose row starts at index at.
 pub fn read_chunk(volume: &[u8], at: usize) -> ChunkRow
-    requires { ⌜ at + 24 ≤ length (now volume) ⌝ }
-    ensures { λ r. ⌜ r ≡ readChunk (part (now (volume .entry)) at 24) ⌝ }
+    requires { ⌜ at + chunkRow ≤ length (now volume) ⌝ }
+    ensures { λ r. ⌜ r ≡ readChunk (part (now (volume .entry)) at chunkRow) ⌝ }
 {
     ChunkRow {
         node: words::get64(volume, at),
@@ -31,7 +31,7 @@ pub fn read_chunk(volume: &[u8], at: usize) -> ChunkRow
 
 // Writes a chunk's row at index at.
 pub fn write_chunk(volume: &mut [u8], at: usize, row: ChunkRow)
-    requires { ⌜ at + 24 ≤ length (now volume) ⌝ }
+    requires { ⌜ at + chunkRow ≤ length (now volume) ⌝ }
     ensures { λ _. ⌜ now (volume .exit) ≡ over (now (volume .entry)) at (layChunk row) ⌝ }
 {
     let fields = [row.node, row.index, row.pointer];
@@ -40,8 +40,8 @@ pub fn write_chunk(volume: &mut [u8], at: usize, row: ChunkRow)
 
 // Whether the row whose bytes start at index at stands before (node, index).
 fn chunk_under(volume: &[u8], at: usize, node: u64, index: u64) -> bool
-    requires { ⌜ at + 24 ≤ length (now volume) ⌝ }
-    ensures { λ r. ⌜ r ≡ chunkUnder node index (readChunk (part (now (volume .entry)) at 24)) ⌝ }
+    requires { ⌜ at + chunkRow ≤ length (now volume) ⌝ }
+    ensures { λ r. ⌜ r ≡ chunkUnder node index (readChunk (part (now (volume .entry)) at chunkRow)) ⌝ }
 {
     pair_before(
         words::get64(volume, at),
@@ -53,8 +53,8 @@ fn chunk_under(volume: &[u8], at: usize, node: u64, index: u64) -> bool
 
 // How many of the rows stand before (node, index), by halving.
 pub fn seek_chunk(volume: &[u8], base: usize, used: usize, node: u64, index: u64) -> usize
-    requires { ⌜ (base + 24 * used ≤ length (now volume)) × Falls (chunkUnder node index) (table readChunk 24 (now volume) base used) ⌝ }
-    ensures { λ r. ⌜ (r ≡ lead (chunkUnder node index) (table readChunk 24 (now (volume .entry)) base used)) × (r ≤ used) ⌝ }
+    requires { ⌜ (base + chunkRow * used ≤ length (now volume)) × Falls (chunkUnder node index) (table readChunk chunkRow (now volume) base used) ⌝ }
+    ensures { λ r. ⌜ (r ≡ lead (chunkUnder node index) (table readChunk chunkRow (now (volume .entry)) base used)) × (r ≤ used) ⌝ }
 {
     let mut low = 0;
     let mut high = used;

@@ -7,7 +7,7 @@ ghost use lib.ListN.{length};
 ghost use Rattle.words.specs.Bytes.{part, over, num};
 ghost use Rattle.words.specs.Tables.{table, lead, Falls};
 ghost use Rattle.types.specs.Sizes.{nameRoom};
-ghost use Rattle.volume.specs.Rows.{layEntry, readEntry};
+ghost use Rattle.volume.specs.Rows.{layEntry, readEntry, entryRow};
 ghost use Rattle.volume.specs.RowTests.{entryFormed};
 ghost use Rattle.volume.specs.Search.{entryUnder};
 
@@ -22,32 +22,32 @@ const NAME: usize = 24;
 
 // The parent in the row that starts at index at.
 pub fn entry_parent(volume: &[u8], at: usize) -> u64
-    requires { ⌜ at + 280 ≤ length (now volume) ⌝ }
-    ensures { λ r. ⌜ r ≡ readEntry (part (now (volume .entry)) at 280) .parent ⌝ }
+    requires { ⌜ at + entryRow ≤ length (now volume) ⌝ }
+    ensures { λ r. ⌜ r ≡ readEntry (part (now (volume .entry)) at entryRow) .parent ⌝ }
 {
     words::get64(volume, at)
 }
 
 // The node in the row that starts at index at.
 pub fn entry_node(volume: &[u8], at: usize) -> u64
-    requires { ⌜ at + 280 ≤ length (now volume) ⌝ }
-    ensures { λ r. ⌜ r ≡ readEntry (part (now (volume .entry)) at 280) .node ⌝ }
+    requires { ⌜ at + entryRow ≤ length (now volume) ⌝ }
+    ensures { λ r. ⌜ r ≡ readEntry (part (now (volume .entry)) at entryRow) .node ⌝ }
 {
     words::get64(volume, at + NODE)
 }
 
 // The index in the row that starts at index at.
 pub fn entry_index(volume: &[u8], at: usize) -> u64
-    requires { ⌜ at + 280 ≤ length (now volume) ⌝ }
-    ensures { λ r. ⌜ (r ≡ readEntry (part (now (volume .entry)) at 280) .index) × (r < 4294967296) ⌝ }
+    requires { ⌜ at + entryRow ≤ length (now volume) ⌝ }
+    ensures { λ r. ⌜ (r ≡ readEntry (part (now (volume .entry)) at entryRow) .index) × (r < 4294967296) ⌝ }
 {
     words::get32(volume, at + INDEX)
 }
 
 // The name in the row that starts at index at, as a part of the volume.
 pub fn entry_name(volume: &[u8], at: usize) -> &[u8]
-    requires { ⌜ (at + 280 ≤ length (now volume)) × (num 4 (now volume) (at + 20) ≤ nameRoom) ⌝ }
-    ensures { λ r. ⌜ now r ≡ readEntry (part (now (volume .entry)) at 280) .name ⌝ }
+    requires { ⌜ (at + entryRow ≤ length (now volume)) × (num 4 (now volume) (at + 20) ≤ nameRoom) ⌝ }
+    ensures { λ r. ⌜ now r ≡ readEntry (part (now (volume .entry)) at entryRow) .name ⌝ }
 {
     let start = at + NAME;
     let long = words::get32(volume, at + NAME_SIZE) as usize;
@@ -56,7 +56,7 @@ pub fn entry_name(volume: &[u8], at: usize) -> &[u8]
 
 // Writes an entry's row at index at.
 pub fn write_entry(volume: &mut [u8], at: usize, parent: u64, node: u64, index: u64, name: &[u8])
-    requires { ⌜ (at + 280 ≤ length (now volume)) × (length (now name) ≤ nameRoom) ⌝ }
+    requires { ⌜ (at + entryRow ≤ length (now volume)) × (length (now name) ≤ nameRoom) ⌝ }
     ensures { λ _. ⌜ now (volume .exit) ≡ over (now (volume .entry)) at (layEntry (record { parent = parent; node = node; index = index; name = now (name .entry) })) ⌝ }
 {
     let long = name.len();
@@ -70,8 +70,8 @@ pub fn write_entry(volume: &mut [u8], at: usize, parent: u64, node: u64, index: 
 
 // Whether the row whose bytes start at index at stands before (parent, index).
 fn entry_under(volume: &[u8], at: usize, parent: u64, index: u64) -> bool
-    requires { ⌜ at + 280 ≤ length (now volume) ⌝ }
-    ensures { λ r. ⌜ r ≡ entryUnder parent index (readEntry (part (now (volume .entry)) at 280)) ⌝ }
+    requires { ⌜ at + entryRow ≤ length (now volume) ⌝ }
+    ensures { λ r. ⌜ r ≡ entryUnder parent index (readEntry (part (now (volume .entry)) at entryRow)) ⌝ }
 {
     pair_before(
         entry_parent(volume, at),
@@ -83,8 +83,8 @@ fn entry_under(volume: &[u8], at: usize, parent: u64, index: u64) -> bool
 
 // How many of the rows stand before (parent, index), by halving.
 pub fn seek_entry(volume: &[u8], base: usize, used: usize, parent: u64, index: u64) -> usize
-    requires { ⌜ (base + 280 * used ≤ length (now volume)) × Falls (entryUnder parent index) (table readEntry 280 (now volume) base used) ⌝ }
-    ensures { λ r. ⌜ (r ≡ lead (entryUnder parent index) (table readEntry 280 (now (volume .entry)) base used)) × (r ≤ used) ⌝ }
+    requires { ⌜ (base + entryRow * used ≤ length (now volume)) × Falls (entryUnder parent index) (table readEntry entryRow (now volume) base used) ⌝ }
+    ensures { λ r. ⌜ (r ≡ lead (entryUnder parent index) (table readEntry entryRow (now (volume .entry)) base used)) × (r ≤ used) ⌝ }
 {
     let mut low = 0;
     let mut high = used;
@@ -101,7 +101,7 @@ pub fn seek_entry(volume: &[u8], base: usize, used: usize, parent: u64, index: u
 
 // Whether the bytes at index at can be an entry's row.
 pub fn entry_formed(volume: &[u8], at: usize) -> bool
-    requires { ⌜ at + 280 ≤ length (now volume) ⌝ }
+    requires { ⌜ at + entryRow ≤ length (now volume) ⌝ }
     ensures { λ r. ⌜ r ≡ entryFormed (now (volume .entry)) at ⌝ }
 {
     let long = words::get32(volume, at + NAME_SIZE) as usize;

@@ -12,7 +12,7 @@ ghost use Prim.Native.Nat.{_+_, _*_, _≤_};
 ghost use lib.ListN.{length};
 ghost use Rattle.words.specs.Bytes.{part, over};
 ghost use Rattle.words.specs.Tables.{table, lead, Falls};
-ghost use Rattle.volume.specs.Rows.{kindOr, layNode, readNode};
+ghost use Rattle.volume.specs.Rows.{kindOr, layNode, readNode, nodeRow};
 ghost use Rattle.volume.specs.RowTests.{limitFormed, nodeFormed};
 ghost use Rattle.volume.specs.Search.{nodeUnder};
 
@@ -51,8 +51,8 @@ fn known(kind: Kind) -> FileType
 
 // The node whose row starts at index at.
 pub fn read_node(volume: &[u8], at: usize) -> NodeRecord
-    requires { ⌜ at + 40 ≤ length (now volume) ⌝ }
-    ensures { λ r. ⌜ r ≡ readNode (part (now (volume .entry)) at 40) ⌝ }
+    requires { ⌜ at + nodeRow ≤ length (now volume) ⌝ }
+    ensures { λ r. ⌜ r ≡ readNode (part (now (volume .entry)) at nodeRow) ⌝ }
 {
     let byte = words::get8(volume, at + KIND) as u8;
     let flag = words::get8(volume, at + FLAG) as u8;
@@ -69,7 +69,7 @@ pub fn read_node(volume: &[u8], at: usize) -> NodeRecord
 
 // Writes a node's row at index at.
 pub fn write_node(volume: &mut [u8], at: usize, row: NodeRecord)
-    requires { ⌜ at + 40 ≤ length (now volume) ⌝ }
+    requires { ⌜ at + nodeRow ≤ length (now volume) ⌝ }
     ensures { λ _. ⌜ now (volume .exit) ≡ over (now (volume .entry)) at (layNode row) ⌝ }
 {
     let kind = row.kind;
@@ -86,8 +86,8 @@ pub fn write_node(volume: &mut [u8], at: usize, row: NodeRecord)
 
 // How many of the rows stand before a node, by halving.
 pub fn seek_node(volume: &[u8], base: usize, used: usize, node: u64) -> usize
-    requires { ⌜ (base + 40 * used ≤ length (now volume)) × Falls (nodeUnder node) (table readNode 40 (now volume) base used) ⌝ }
-    ensures { λ r. ⌜ (r ≡ lead (nodeUnder node) (table readNode 40 (now (volume .entry)) base used)) × (r ≤ used) ⌝ }
+    requires { ⌜ (base + nodeRow * used ≤ length (now volume)) × Falls (nodeUnder node) (table readNode nodeRow (now volume) base used) ⌝ }
+    ensures { λ r. ⌜ (r ≡ lead (nodeUnder node) (table readNode nodeRow (now (volume .entry)) base used)) × (r ≤ used) ⌝ }
 {
     let mut low = 0;
     let mut high = used;
@@ -117,7 +117,7 @@ fn limit_formed(flag: u64, limit: u64) -> bool
 
 // Whether the bytes at index at can be a node's row.
 pub fn node_formed(volume: &[u8], at: usize) -> bool
-    requires { ⌜ at + 40 ≤ length (now volume) ⌝ }
+    requires { ⌜ at + nodeRow ≤ length (now volume) ⌝ }
     ensures { λ r. ⌜ r ≡ nodeFormed (now (volume .entry)) at ⌝ }
 {
     if MOST_KIND < words::get8(volume, at + KIND) {

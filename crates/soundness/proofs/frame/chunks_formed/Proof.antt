@@ -5,6 +5,7 @@ use Rattle.words.proofs.Blocks.{zero-part}
 use Rattle.soundness.proofs.FrameRules.{any-rows}
 use Prim.Native.Nat.{_+_, _-_, _*_}
 use Rattle.soundness.proofs.frame.chunks_formed.Tie as tie
+use Rattle.volume.specs.Rows.{chunkRow}
 
 mul-rest : tie.Need-mul-rest
 mul-rest c = search needs
@@ -35,7 +36,7 @@ is-zero-requires c κs = search needs
 
 returns : tie.Need-returns
 returns c =
-    any-rows 24 ((now (c .before .before .before .args .volume))) (c .before .before .before .args .base) (c .before .before .before .args .used) (c .before .before .before .args .room) (zero-part ((now (c .before .before .before .args .volume))) (c .before .before .before .args .base + 24 * c .before .before .before .args .used) (24 * (c .before .before .before .args .room - c .before .before .before .args .used)) (c .is-zero .ensures))
+    any-rows 24 ((now (c .before .before .before .args .volume))) (c .before .before .before .args .base) (c .before .before .before .args .used) (c .before .before .before .args .room) (zero-part ((now (c .before .before .before .args .volume))) (c .before .before .before .args .base + chunkRow * c .before .before .before .args .used) (chunkRow * (c .before .before .before .args .room - c .before .before .before .args .used)) (c .is-zero .ensures))
 
 pub chunks-formed-spec : {M : Type 1} → statement M
 chunks-formed-spec =

@@ -6,6 +6,7 @@ use Rattle.words.proofs.Blocks.{zero-part}
 use Rattle.soundness.specs.FrameRules.{rowsFormed}
 use Prim.Native.Nat.{_+_, _-_, _*_}
 use Rattle.soundness.proofs.frame.entries_formed.Tie as tie
+use Rattle.volume.specs.Rows.{entryRow}
 
 entry-rows-requires : tie.Need-entry-rows-requires
 entry-rows-requires c κs = search needs
@@ -44,7 +45,7 @@ is-zero-requires c κs = search needs
 returns-2 : tie.Need-returns-2
 unfolding rowsFormed
 returns-2 c =
-    go-on _ _ (call-yes (c .before .before .before .entry-rows .ensures) (c .before .before .if1 .left)) (zero-part ((now (c .before .before .before .before .before .args .volume))) (c .before .before .before .before .before .args .base + 280 * c .before .before .before .before .before .args .used) (280 * (c .before .before .before .before .before .args .room - c .before .before .before .before .before .args .used)) (c .is-zero .ensures))
+    go-on _ _ (call-yes (c .before .before .before .entry-rows .ensures) (c .before .before .if1 .left)) (zero-part ((now (c .before .before .before .before .before .args .volume))) (c .before .before .before .before .before .args .base + entryRow * c .before .before .before .before .before .args .used) (entryRow * (c .before .before .before .before .before .args .room - c .before .before .before .before .before .args .used)) (c .is-zero .ensures))
 
 pub entries-formed-spec : {M : Type 1} → statement M
 entries-formed-spec =

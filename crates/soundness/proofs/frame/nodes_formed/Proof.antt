@@ -6,6 +6,7 @@ use Rattle.words.proofs.Blocks.{zero-part}
 use Rattle.soundness.specs.FrameRules.{rowsFormed}
 use Prim.Native.Nat.{_+_, _-_, _*_}
 use Rattle.soundness.proofs.frame.nodes_formed.Tie as tie
+use Rattle.volume.specs.Rows.{nodeRow}
 
 node-rows-requires : tie.Need-node-rows-requires
 node-rows-requires c κs = search needs
@@ -44,7 +45,7 @@ is-zero-requires c κs = search needs
 returns-2 : tie.Need-returns-2
 unfolding rowsFormed
 returns-2 c =
-    go-on _ _ (call-yes (c .before .before .before .node-rows .ensures) (c .before .before .if1 .left)) (zero-part ((now (c .before .before .before .before .before .args .volume))) (c .before .before .before .before .before .args .base + 40 * c .before .before .before .before .before .args .used) (40 * (c .before .before .before .before .before .args .room - c .before .before .before .before .before .args .used)) (c .is-zero .ensures))
+    go-on _ _ (call-yes (c .before .before .before .node-rows .ensures) (c .before .before .if1 .left)) (zero-part ((now (c .before .before .before .before .before .args .volume))) (c .before .before .before .before .before .args .base + nodeRow * c .before .before .before .before .before .args .used) (nodeRow * (c .before .before .before .before .before .args .room - c .before .before .before .before .before .args .used)) (c .is-zero .ensures))
 
 pub nodes-formed-spec : {M : Type 1} → statement M
 nodes-formed-spec =

@@ -3,20 +3,20 @@ use Rattle.volume.proofs.entries.seek_entry.Statement.{statement}
 use denote.Ref.{now}
 use mathlib.Core.Path.{sym, _∙_}
 use Prim.Native.Nat.{_-_}
-use Rattle.volume.specs.Rows.{readEntry}
+use Rattle.volume.specs.Rows.{readEntry, entryRow}
 use Rattle.volume.specs.Search.{entryUnder}
 use Rattle.words.proofs.Search.{Between, all-between, upper-half, lower-half, none-between}
 use Rattle.volume.proofs.entries.seek_entry.Tie as tie
 
 abbrev Inv-loop : tie.InvT-loop
-Inv-loop volume base used parent index low₀ high₀ low high = Between (entryUnder parent index) readEntry 280 volume base used low high
+Inv-loop volume base used parent index low₀ high₀ low high = Between (entryUnder parent index) readEntry entryRow volume base used low high
 
 abbrev μ-loop : tie.MeasureT-loop
 μ-loop volume base used parent index low₀ high₀ low high = high - low
 
 loop-holds : tie.Need-loop-holds Inv-loop μ-loop
 loop-holds c =
-    all-between (entryUnder (c .before .args .parent) (c .before .args .index)) readEntry 280 (now (c .before .args .volume)) (c .before .args .base) (c .before .args .used)
+    all-between (entryUnder (c .before .args .parent) (c .before .args .index)) readEntry entryRow (now (c .before .args .volume)) (c .before .args .base) (c .before .args .used)
 
 sub-middle : tie.Need-sub-middle Inv-loop μ-loop
 sub-middle c = search needs
@@ -41,18 +41,18 @@ loop-less c = search needs
 
 loop-again : tie.Need-loop-again Inv-loop μ-loop
 loop-again c =
-    upper-half (entryUnder (c .before .before .before .before .before .args .parent) (c .before .before .before .before .before .args .index)) readEntry 280 (now (c .before .before .before .before .before .args .volume)) (c .before .before .before .before .before .args .base) (c .before .before .before .before .before .args .used) (c .before .before .before .loop .low) (c .before .before .before .loop .high) (c .before .before .before .loop .inv) (c .before .before .loop-test .taken) (c .before .before .before .before .before .pre .1) (sym (c .before .entry-under .ensures) ∙ c .if1 .taken)
+    upper-half (entryUnder (c .before .before .before .before .before .args .parent) (c .before .before .before .before .before .args .index)) readEntry entryRow (now (c .before .before .before .before .before .args .volume)) (c .before .before .before .before .before .args .base) (c .before .before .before .before .before .args .used) (c .before .before .before .loop .low) (c .before .before .before .loop .high) (c .before .before .before .loop .inv) (c .before .before .loop-test .taken) (c .before .before .before .before .before .pre .1) (sym (c .before .entry-under .ensures) ∙ c .if1 .taken)
 
 loop-less-2 : tie.Need-loop-less-2 Inv-loop μ-loop
 loop-less-2 c = search needs
 
 loop-again-2 : tie.Need-loop-again-2 Inv-loop μ-loop
 loop-again-2 c =
-    lower-half (entryUnder (c .before .before .before .before .before .args .parent) (c .before .before .before .before .before .args .index)) readEntry 280 (now (c .before .before .before .before .before .args .volume)) (c .before .before .before .before .before .args .base) (c .before .before .before .before .before .args .used) (c .before .before .before .loop .low) (c .before .before .before .loop .high) (c .before .before .before .loop .inv) (c .before .before .loop-test .taken) (sym (c .before .entry-under .ensures) ∙ c .if1 .left)
+    lower-half (entryUnder (c .before .before .before .before .before .args .parent) (c .before .before .before .before .before .args .index)) readEntry entryRow (now (c .before .before .before .before .before .args .volume)) (c .before .before .before .before .before .args .base) (c .before .before .before .before .before .args .used) (c .before .before .before .loop .low) (c .before .before .before .loop .high) (c .before .before .before .loop .inv) (c .before .before .loop-test .taken) (sym (c .before .entry-under .ensures) ∙ c .if1 .left)
 
 returns : tie.Need-returns Inv-loop μ-loop
 returns c =
-    none-between (entryUnder (c .before .before .before .args .parent) (c .before .before .before .args .index)) readEntry 280 (now (c .before .before .before .args .volume)) (c .before .before .before .args .base) (c .before .before .before .args .used) (c .before .loop .low) (c .before .loop .high) (c .before .loop .inv) (c .loop-test .left)
+    none-between (entryUnder (c .before .before .before .args .parent) (c .before .before .before .args .index)) readEntry entryRow (now (c .before .before .before .args .volume)) (c .before .before .before .args .base) (c .before .before .before .args .used) (c .before .loop .low) (c .before .loop .high) (c .before .loop .inv) (c .loop-test .left)
 
 pub seek-entry-spec : {M : Type 1} → statement M
 seek-entry-spec =
