@@ -1,8 +1,11 @@
 /* Lentilraft for C, over the static library that `rt staticlib rim` writes (target/staticlib/librim.a).
 
    Each call gives back a number: 0 if it was carried out, else why it was refused. A call is carried out in full or refused with nothing
-   changed. Any bytes and any numbers get an answer. What C must see to itself: a pointer points to as many bytes as its length says and is
-   not null (where the length is 0 too), and memory that a call writes to overlaps no other memory given to that call. */
+   changed; numbers that it tells through pointers are 0 then. A number is given where its reason holds and none does that stands before it
+   in the call's list. Any bytes and any numbers get an answer.
+
+   What C must see to itself: a pointer points to as many bytes as its length says and is not null (where the length is 0 too), and memory
+   that a call writes to overlaps no other memory given to that call. */
 #ifndef LENTILRAFT_H
 #define LENTILRAFT_H
 
@@ -32,10 +35,24 @@ enum lentilraft_number {
     LENTILRAFT_OUTPUT_TOO_SHORT = 15     /* output shorter than 512 bytes */
 };
 
+/* What a node is. Every volume has node 0, a directory that no entry names: paths begin there, or at any other node. */
+enum lentilraft_type {
+    LENTILRAFT_TYPE_DIRECTORY = 0,
+    LENTILRAFT_TYPE_FILE = 1,         /* a regular file */
+    LENTILRAFT_TYPE_SYMBOLIC_LINK = 2 /* holds bytes like a file, and is not followed */
+};
+
+/* What unlink may be told to expect. */
+enum lentilraft_expected {
+    LENTILRAFT_EXPECT_ANY = 0,
+    LENTILRAFT_EXPECT_DIRECTORY = 1,
+    LENTILRAFT_EXPECT_FILE = 2 /* or a symbolic link */
+};
+
 /* Makes a volume of all of a memory, whatever it held, with room for so many nodes, entries and chunks (1 to 4,096 each) and a chunk size of
    4,096, 16,384 or 65,536. The memory needs 65,728 + 40 nodes + 280 entries + 32 chunks bytes, and may have more.
    13: geometry, length or chunk size. */
-uint32_t lentilraft_new_volume(uint8_t *volume, size_t length, uint64_t nodes, uint64_t entries, uint64_t chunks, uint64_t size);
+uint32_t lentilraft_new_volume(uint8_t *volume, size_t length, uint64_t nodes, uint64_t entries, uint64_t chunks, uint64_t chunk_size);
 
 /* Whether a memory, of any content, is a sound volume. 1: it is not. */
 uint32_t lentilraft_check(const uint8_t *volume, size_t length);
@@ -45,30 +62,62 @@ uint32_t lentilraft_check(const uint8_t *volume, size_t length);
 uint32_t lentilraft_open_allocator(uint8_t *words, size_t length);
 
 /* Sets the chunk size. 1: unsound memory. 13: not accepted, or another than now after a chunk was given out. */
-uint32_t lentilraft_set_chunk_size(uint8_t *volume, size_t length, uint64_t size);
+uint32_t lentilraft_set_chunk_size(uint8_t *volume, size_t length, uint64_t chunk_size);
 
 /* Reads bytes of a file from an offset on, and tells how many: as many as the buffer has, or as the file has behind the offset. Bytes that were
    never written read as zero; the buffer stays as it was past the count.
-   1: unsound memory. 2: no such node. 3: a directory. The count of a refusal is 0. */
+   1: unsound memory. 2: no such node. 3: a directory. */
 uint32_t lentilraft_read(const uint8_t *volume, size_t length, uint64_t node, uint64_t offset, uint8_t *buffer, size_t buffer_length, uint64_t *count);
+
+/* Writes bytes into a file at an offset, and tells how many. A gap before them costs nothing and reads as zero until it is written. A write of
+   no bytes changes nothing, at any offset.
+   1: unsound memory. 2: no such node. 3: a directory. 5: the end lies above the file's limit. 6: no room for the chunks. */
+uint32_t lentilraft_write(uint8_t *volume, size_t length, uint64_t node, uint64_t offset, const uint8_t *bytes, size_t bytes_length, uint64_t *count);
 
 /* Cuts or extends a file. What lies above its old size reads as zero; what is cut off is gone.
    1: unsound memory. 2: no such node. 3: a directory. 5: above the file's limit. 6: the last chunk is a hole, and there is no room for it. */
 uint32_t lentilraft_resize_file(uint8_t *volume, size_t length, uint64_t node, uint64_t size);
-
-/* Writes bytes into a file at an offset, and tells how many. A gap before them costs nothing and reads as zero until it is written. The call is
-   carried out in full, or nothing changes.
-   1: unsound memory. 2: no such node. 3: a directory. 5: the end lies above the file's limit. 6: no room for the chunks. The count of a refusal
-   is 0. */
-uint32_t lentilraft_write(uint8_t *volume, size_t length, uint64_t node, uint64_t offset, const uint8_t *bytes, size_t bytes_length, uint64_t *count);
 
 /* Sets a limit of a file's size, at most 2^40 and not below its size; or clears it, so that 2^40 is the limit.
    1: unsound memory. 2: no such node. 3: a directory. 13: above 2^40. 5: below the file's size. */
 uint32_t lentilraft_set_limit(uint8_t *volume, size_t length, uint64_t node, uint64_t limit);
 uint32_t lentilraft_clear_limit(uint8_t *volume, size_t length, uint64_t node);
 
+/* Makes a node of a type (enum lentilraft_type), names it in a directory, and tells its number. It has one link, no bytes and no limit. A name
+   has 1 to 255 bytes and no `/`, and is neither `.` nor `..`; it needs no end mark.
+   1: unsound memory. 2: no such parent, or one without links. 4: the parent is no directory. 9: bad name. 13: no such type. 10: the directory has
+   that name. 7: node or entry rows used up, or the next node is the greatest u64. 14: the directory's greatest index is the greatest u32. */
+uint32_t lentilraft_create(uint8_t *volume, size_t length, uint64_t parent, const uint8_t *name, size_t name_length, uint8_t type, uint64_t *node);
+
+/* Names a file once more, in a directory. The file may be one whose last name was unlinked.
+   1: unsound memory. 2: no such parent, or one without links. 4: the parent is no directory. 9: bad name. 2: no such target. 3: the target is a
+   directory. 10: the directory has that name. 7: entry rows used up. 14: the directory's greatest index is the greatest u32. */
+uint32_t lentilraft_link(uint8_t *volume, size_t length, uint64_t parent, const uint8_t *name, size_t name_length, uint64_t target);
+
+/* Finds the node that a path leads to from a start, and tells it. Parts stand between `/`; empty parts and `.` are dropped, and `..` drops the part
+   before it. A path with no parts left leads to the start itself.
+   1: unsound memory. 13: the path has more than 4,096 bytes. 8: a leading `/`, or a `..` with no part before it. 2: no such start. Then, part by
+   part, 9: more than 255 bytes; or 2: no entry of that name there. */
+uint32_t lentilraft_find_node(const uint8_t *volume, size_t length, uint64_t start, const uint8_t *path, size_t path_length, uint64_t *node);
+
+/* Takes the name that a path leads to from a start out of its directory, and tells the node that it named. The node and its bytes stay, also
+   without a name: link names it again, remove takes it away. Expected is one of enum lentilraft_expected; opens is how many have the node open.
+   1: unsound memory. 13: no such thing to expect. Then find's 13, 8 (also for a path with no parts), 2 and 9. 3: a directory, and a file was
+   expected. 11: a directory that is not empty. 4: no directory, and one was expected. 12: it is open, and this is its last name. */
+uint32_t lentilraft_unlink(uint8_t *volume, size_t length, uint64_t start, const uint8_t *path, size_t path_length, uint8_t expected, uint64_t opens, uint64_t *node);
+
+/* Takes a node away that has no name left, and frees its chunks.
+   1: unsound memory. 2: no such node. 12: it has a name, or is node 0. */
+uint32_t lentilraft_remove(uint8_t *volume, size_t length, uint64_t node);
+
+/* Finds the entry of a directory with the least index at or above one. Tells where in the volume its name starts, how many bytes the name has, the
+   entry's index and its node. All entries in turn: from 0, then from the index told plus 1, until 2 or until that sum wraps. The name stands there
+   until the volume is changed; a call that changes it must be given a copy of the name.
+   1: unsound memory. 2: no such node. 4: no directory. 2: no such entry. */
+uint32_t lentilraft_next_entry(const uint8_t *volume, size_t length, uint64_t directory, uint32_t from, uint64_t *name_start, uint64_t *name_length, uint32_t *index, uint64_t *node);
+
 /* Writes the report, lines `key=value`, to out, and tells how many bytes it has; out stays as it was past the count.
-   1: unsound memory. 15: out is shorter than 512 bytes. The count of a refusal is 0. */
+   1: unsound memory. 15: out is shorter than 512 bytes. */
 uint32_t lentilraft_report(const uint8_t *volume, size_t length, uint8_t *out, size_t out_length, uint64_t *count);
 
 #ifdef __cplusplus

@@ -3,9 +3,11 @@
 
 use oracle::{
     allocator_words::{AllocatorWords, Opened},
+    calls::Call,
     caught::{caught, silence},
     error::Error,
     filename_cache::FilenameCache,
+    numbered::{Numbered, Rooms},
     runtime::{structure_helpers, types::ChunkSize},
     scope::{FIRST_POINTER, MARKER, OLD_MARKER},
     storage::{
@@ -62,6 +64,17 @@ fn one_file() -> (Volume, Node) {
     let mut volume = new_volume();
     let node = new_file(&mut volume, "f").unwrap();
     (volume, node)
+}
+
+/// A volume that is asked by the scope's calls.
+fn numbered() -> Numbered {
+    let rooms = Rooms {
+        nodes: 8,
+        entries: 8,
+        chunks: 8,
+        area: 65536,
+    };
+    Numbered::new(rooms, ChunkSize::CHUNK16K)
 }
 
 /// The same with the Rust's own limit, or any other.
@@ -278,6 +291,13 @@ fn refused_creates() {
     let left = ("links of node 1", links_of(&v, 1), "next node", next);
     show("create-refused", "name of 256 bytes", (created, left));
 
+    for (parent, name) in [(77, "f".to_string()), (ROOT, "n".repeat(256))] {
+        let input = format!("type 3 in parent {parent}, name of {} bytes", name.len());
+        let kind = 3;
+        let create = Call::Create { parent, kind, name };
+        show("create-type", &input, numbered().ask(&create).number);
+    }
+
     let mut v = new_volume();
     v.storage.set_next_node(u64::MAX);
     let nodes = [
@@ -293,8 +313,17 @@ fn refused_creates() {
 }
 
 fn hard_link(volume: &mut Volume, new_path: &str, old_path: &str) -> Result<(), Error> {
+    hard_link_in(volume, ROOT, new_path, old_path)
+}
+
+fn hard_link_in(
+    volume: &mut Volume,
+    parent: Node,
+    new_path: &str,
+    old_path: &str,
+) -> Result<(), Error> {
     structure_helpers::create_hard_link(
-        ROOT,
+        parent,
         new_path,
         ROOT,
         old_path,
@@ -324,14 +353,37 @@ fn links() {
     show("link-existing", "f as f, entries, links", (linked, left));
     let linked = (hard_link(&mut v, "x/y", "f"), v.find(ROOT, "x"));
     show("link-makes-folders", "f as x/y, x", linked);
+
+    let mut v = new_volume();
+    let linked = hard_link(&mut v, &"n".repeat(256), "f");
+    show("link-order", "a missing f, name of 256 bytes", linked);
+    let (mut v, f) = one_file();
+    let linked = hard_link_in(&mut v, 99, "x", "f");
+    let left = (links_of(&v, f), v.rm_dir_entry(ROOT, "f", None, 1));
+    show(
+        "link-refused",
+        "f in parent 99, links, unlink",
+        (linked, left),
+    );
+    let (mut v, f) = one_file();
+    let g = new_file(&mut v, "g").unwrap();
+    let linked = (v.link(f, b"x", g), size(&v, f), v.find(f, "x"));
+    show("below-file", "link, size, found", linked);
+    let mut v = new_volume();
+    let d = new_directory(&mut v, "d").unwrap();
+    let f = new_file(&mut v, "f").unwrap();
+    v.rm_dir_entry(ROOT, "d", None, 0).unwrap();
+    show("under-removed", "link", v.link(d, b"x", f));
 }
 
 fn paths() {
-    let v = new_volume();
+    let mut v = new_volume();
     for path in ["", "a", &"n".repeat(256)] {
         let input = format!("path of {} bytes", path.len());
         show("find-missing-start", &input, v.find(99, path));
     }
+    let unlinked = v.rm_dir_entry(99, &"n".repeat(256), None, 0);
+    show("find-missing-start", "unlink, path of 256 bytes", unlinked);
     let found = v.find(ROOT, &"./".repeat(2049));
     show("path-long", "4,098 bytes", found);
     for path in ["", ".", "a/.."] {

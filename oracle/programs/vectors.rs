@@ -6,11 +6,12 @@ mod vectors {
     pub mod files;
     pub mod generator;
     pub mod lists;
+    pub mod names;
     pub mod paths;
 }
 
 use std::{io, path::Path};
-use vectors::{allocator, files, generator::Generator, lists, paths};
+use vectors::{allocator, files, generator::Generator, lists, names, paths};
 
 fn main() -> io::Result<()> {
     oracle::caught::silence();
@@ -32,7 +33,9 @@ fn fixed(crates: &Path) -> io::Result<()> {
     let paths = paths::fixed(&mut Generator::new(2));
     lists::write_one(&crates.join("path_vectors"), &paths, paths::summary)?;
     let runs = files::fixed(&mut Generator::new(5));
-    lists::write_one(&crates.join("file_vectors"), &runs, files::summary)
+    lists::write_one(&crates.join("file_vectors"), &runs, files::summary)?;
+    let runs = names::fixed(&mut Generator::new(7));
+    lists::write_one(&crates.join("name_vectors"), &runs, names::summary)
 }
 
 fn bulk(folder: &Path) -> io::Result<()> {
@@ -41,5 +44,7 @@ fn bulk(folder: &Path) -> io::Result<()> {
     let paths = paths::bulk(&mut Generator::new(4));
     lists::write_many(folder, "path_vectors", &paths, paths::summary)?;
     let runs = files::bulk(&mut Generator::new(6));
-    lists::write_many(folder, "file_vectors", &runs, files::summary)
+    lists::write_many(folder, "file_vectors", &runs, files::summary)?;
+    let runs = names::bulk(&mut Generator::new(8));
+    lists::write_many(folder, "name_vectors", &runs, names::summary)
 }

@@ -4,7 +4,10 @@
 use crate::{
     error::Error,
     filename_cache::FilenameCache,
-    runtime::{structure_helpers, types::ChunkSize},
+    runtime::{
+        structure_helpers,
+        types::{ChunkSize, ChunkType},
+    },
     scope::FIRST_POINTER,
     storage::{
         Storage,
@@ -95,12 +98,29 @@ impl Volume {
         Ok(node)
     }
 
-    /// The last two steps of `create_hard_link`; those before them look up and create paths.
+    /// The steps of `create_dir_entry`, which refuses this type. The bytes stand in V2 chunks.
+    pub fn create_symbolic_link(&mut self, parent: Node, name: &[u8]) -> Result<Node, Error> {
+        let node = self.storage.new_node();
+        let metadata = Metadata {
+            node,
+            file_type: FileType::SymbolicLink,
+            link_count: 1,
+            chunk_type: Some(ChunkType::V2),
+            maximum_size_allowed: Some(FILE_LIMIT),
+            ..Metadata::default()
+        };
+        self.storage.put_metadata(node, &metadata)?;
+        self.add_dir_entry(parent, name, node)?;
+        Ok(node)
+    }
+
+    /// The last two steps of `create_hard_link`; those before them look up and create paths. The
+    /// entry is made first, so that a refusal leaves the count.
     pub fn link(&mut self, parent: Node, name: &[u8], target: Node) -> Result<(), Error> {
+        self.add_dir_entry(parent, name, target)?;
         let mut metadata = self.metadata(target)?;
         metadata.link_count += 1;
-        self.storage.put_metadata(target, &metadata)?;
-        self.add_dir_entry(parent, name, target)
+        self.storage.put_metadata(target, &metadata)
     }
 
     pub fn add_dir_entry(&mut self, parent: Node, name: &[u8], node: Node) -> Result<(), Error> {
@@ -155,7 +175,7 @@ impl Volume {
     }
 }
 
-#[derive(Clone, Debug, PartialEq)]
+#[derive(Clone, Debug, Default, PartialEq)]
 pub struct Listed {
     pub index: DirEntryIndex,
     pub node: Node,

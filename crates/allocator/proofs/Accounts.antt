@@ -11,12 +11,12 @@ use native.Mathlib.Decide.{decLt}
 use lib.Dec.{eqb, ltb}
 use lib.ListN.{length, take, getD}
 use lib.Seq.{take-suc, take-suc-set, getD-set-same, take-set-le}
-use Rattle.words.specs.Rules.{both, bit, count}
-use Rattle.words.proofs.Rules.{Says, holds, fails, says-eqb, says-ltb}
+use Rattle.words.specs.Rules.{both, bit, count, Says, holds, fails}
+use Rattle.words.proofs.Rules.{says-eqb, says-ltb}
 use Rattle.words.proofs.Counting.{count-cons, count-snoc, bit-most}
 use Rattle.words.proofs.Multiples.{gap, lined-next}
-use Rattle.allocator.specs.Allocator.{Allocator, free, allocate, release, popped, grown, Taken}
-use Rattle.allocator.specs.Pointers.{due, Accounted, allocations}
+use Rattle.allocator.specs.Allocator.{Allocator, free, allocate, release, reused, grown, Allocation}
+use Rattle.allocator.specs.Pointers.{due, Due, Accounted, allocations}
 use Rattle.allocator.proofs.AllocateCases.{Way, new, last, way, takes-new, takes-last}
 
 -- ---- the pointers due
@@ -32,10 +32,6 @@ due-none s next p h = go (ltb p next) (says-ltb p next)
 pub due-most : (s next p : ℕ) → due s next p ≤ 1
 unfolding due
 due-most s next p = bit-most (both (ltb p next) (eqb (p % s) 0))
-
-pub record Due (s next p : ℕ) : Type 0 where
-  pub lined : p % s ≡ 0
-  pub low : p < next
 
 pub due-facts : (s next p : ℕ) → 1 ≤ due s next p → Due s next p
 unfolding due both bit
@@ -94,13 +90,13 @@ allocate-accounts a live pos l h acc = go (allocate a) (way a)
     grows : Accounted (grown a .after) (grown a .pointer ∷ live)
     grows p = omega (arith, acc p, count-cons p (a .nextPtr) live, due-next (a .chunkSize) (a .nextPtr) p pos l)
 
-    pops : (a .freeCount ≡ 0 → ⊥) → Accounted (popped a .after) (popped a .pointer ∷ live)
+    pops : (a .freeCount ≡ 0 → ⊥) → Accounted (reused a .after) (reused a .pointer ∷ live)
     pops e p =
         let q = getD (a .words) (a .freeCount - 1) 0 in
         let c : count p (free a) ≡ bit (eqb q p) + count p (take (a .freeCount - 1) (a .words)) = ap (count p) (last-free a e h) ∙ count-snoc p q (take (a .freeCount - 1) (a .words)) in
         omega (arith, acc p, count-cons p q live)
 
-    go : (t : Taken) → Way a t → Accounted (t .after) (t .pointer ∷ live)
+    go : (t : Allocation) → Way a t → Accounted (t .after) (t .pointer ∷ live)
     go t (new e) = grows
     go t (last e) = pops e
 
@@ -108,7 +104,7 @@ allocate-accounts a live pos l h acc = go (allocate a) (way a)
 pub allocate-lined : (a : Allocator) → a .nextPtr % a .chunkSize ≡ 0 → allocate a .after .nextPtr % allocate a .after .chunkSize ≡ 0
 allocate-lined a l = go (allocate a) (way a)
   where
-    go : (t : Taken) → Way a t → t .after .nextPtr % t .after .chunkSize ≡ 0
+    go : (t : Allocation) → Way a t → t .after .nextPtr % t .after .chunkSize ≡ 0
     go t (new e) = lined-next (a .chunkSize) (a .nextPtr) l
     go t (last e) = l
 

@@ -8,7 +8,7 @@ use native.Mathlib.Omega.{arith}
 use lib.ListN.{length}
 use lib.Seq.{length-take-le}
 use Rattle.words.proofs.Multiples.{whole, step-apart}
-use Rattle.allocator.specs.Allocator.{Allocator, Taken, free, allocate}
+use Rattle.allocator.specs.Allocator.{Allocator, Allocation, free, allocate}
 use Rattle.allocator.specs.Pointers.{Accounted}
 use Rattle.allocator.proofs.AllocateCases.{Way, new, last, way}
 use Rattle.allocator.proofs.Counted.{all-pointers}
@@ -27,14 +27,14 @@ pub record Rest (a b : Allocator) : Type 0 where
 pub allocate-rest : (a : Allocator) → Rest a (allocate a .after)
 allocate-rest a = go (allocate a) (way a)
   where
-    go : (t : Taken) → Way a t → Rest a (t .after)
+    go : (t : Allocation) → Way a t → Rest a (t .after)
     go t (new e) = record { mark = refl; size = refl; unread = refl; words = refl }
     go t (last e) = record { mark = refl; size = refl; unread = refl; words = refl }
 
 pub allocate-count : (a : Allocator) → allocate a .after .freeCount ≤ a .freeCount
 allocate-count a = go (allocate a) (way a)
   where
-    go : (t : Taken) → Way a t → t .after .freeCount ≤ a .freeCount
+    go : (t : Allocation) → Way a t → t .after .freeCount ≤ a .freeCount
     go t (new e) = omega arith
     go t (last e) = omega arith
 
@@ -48,14 +48,14 @@ module _ (a : Allocator) (area : ℕ) (pos : 0 < a .chunkSize) (inside : a .next
   pub allocate-inside : allocate a .after .nextPtr ≤ area
   allocate-inside = go (allocate a) (way a)
     where
-      go : (t : Taken) → Way a t → t .after .nextPtr ≤ area
+      go : (t : Allocation) → Way a t → t .after .nextPtr ≤ area
       go t (new e) = new-inside e
       go t (last e) = inside
 
   pub allocate-left : suc (left area (allocate a .after)) ≡ left area a
   allocate-left = go (allocate a) (way a)
     where
-      go : (t : Taken) → Way a t → suc (left area (t .after)) ≡ left area a
+      go : (t : Allocation) → Way a t → suc (left area (t .after)) ≡ left area a
       go t (new e) =
           let z : area - (a .nextPtr + a .chunkSize) ≡ area - a .nextPtr - a .chunkSize = omega arith in
           rw z (omega (arith, div-eq-sub-div {n = area - a .nextPtr} pos (omega (arith, new-inside e))))
@@ -71,6 +71,6 @@ allocate-enough a live c pos lined fits acc h enough = go (allocate a) (way a)
         let f : length (free a) ≡ a .freeCount = unfold free in length-take-le (a .freeCount) (a .words) fits in
         omega (arith, all-pointers a live pos lined acc)
 
-    go : (t : Taken) → Way a t → t .after .nextPtr ≤ c * a .chunkSize
+    go : (t : Allocation) → Way a t → t .after .nextPtr ≤ c * a .chunkSize
     go t (new e) = omega (arith, step-apart (a .chunkSize) (a .nextPtr / a .chunkSize) c (omega (arith, given)), whole (a .chunkSize) (a .nextPtr) lined)
     go t (last e) = enough

@@ -8,8 +8,8 @@ use native.Mathlib.Nat.{zero-mul, suc-mul, mul-mod-left}
 use native.Mathlib.Omega.{arith}
 use lib.Dec.{eqb}
 use lib.ListN.{length, length-append}
-use Rattle.words.specs.Rules.{pick, bit, times, count}
-use Rattle.words.proofs.Rules.{Says, holds, fails, says-eqb}
+use Rattle.words.specs.Rules.{pick, bit, times, count, Says, holds, fails}
+use Rattle.words.proofs.Rules.{says-eqb}
 use Rattle.words.proofs.Counting.{bit-same, bit-apart, count-cons, count-append}
 use Rattle.words.proofs.Multiples.{whole}
 use Rattle.allocator.specs.Allocator.{Allocator, free}

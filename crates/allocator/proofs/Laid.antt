@@ -9,12 +9,12 @@ use lib.ListN.{length, getD, set, length-append}
 use lib.Seq.{take-length, getD-append-add}
 use Rattle.words.specs.Bytes.{part, over, spell, num, word, Bytes}
 use Rattle.words.specs.Tables.{table, layWords, Each}
-use Rattle.words.proofs.Numbers.{num-below, num-part, spell-num, length-spell, value-spell}
+use Rattle.words.proofs.Numbers.{num-below, num-part, spell-num, length-spell, little-endian-spell}
 use Rattle.words.proofs.Order.{each-map, each-left, each-right, set-append-add}
 use Rattle.words.proofs.Pieces.{rows-again, each-rows}
 use Rattle.words.proofs.Tables.{table-lay, length-table, length-layAll, layAll-append, table-add, set-lay, num-words}
-use Rattle.allocator.specs.Allocator.{Allocator, withSize, withCount, withNext, withWords, wordsOf, layAllocator, readAllocator, readWord}
-use Rattle.allocator.specs.Words.{Formed}
+use Rattle.allocator.specs.Allocator.{Allocator, withSize, withCount, withNextPtr, withWords, wordsOf, layAllocator, readAllocator, readWord}
+use Rattle.allocator.specs.Words.{WordsFormed}
 
 -- ---- what is read is laid out again
 
@@ -26,13 +26,13 @@ word-again : (l : List ℕ) → Bytes l → (at : ℕ) → at + 8 ≤ length l �
 word-again l b at h = rw (first-word l at) (spell-num 8 l at b h)
 
 -- all the words
-words-of : (l : List ℕ) → Formed l → wordsOf (readAllocator l) ≡ table readWord 8 l 0 (length l / 8)
+words-of : (l : List ℕ) → WordsFormed l → wordsOf (readAllocator l) ≡ table readWord 8 l 0 (length l / 8)
 unfolding wordsOf readAllocator table
 words-of l f =
     let e : length l / 8 ≡ 16 + (length l / 8 - 16) = omega (arith, f .least) in
     sym (ap (table readWord 8 l 0) e ∙ table-add readWord 8 l 0 16 (length l / 8 - 16) ∙ rw (first-word l 0, first-word l 8, first-word l 16, first-word l 24))
 
-pub laid-again : (l : List ℕ) → Bytes l → Formed l → layAllocator (readAllocator l) ≡ l
+pub laid-again : (l : List ℕ) → Bytes l → WordsFormed l → layAllocator (readAllocator l) ≡ l
 unfolding layAllocator
 laid-again l b f =
     let e : 8 * (length l / 8) ≡ length l = omega (arith, f .whole) in
@@ -41,13 +41,13 @@ laid-again l b f =
 
 -- ---- what is laid out is read back
 
-pub record Fits (a : Allocator) : Type 0 where
+pub record WordsFit (a : Allocator) : Type 0 where
   pub twelve : length (a .unread) ≡ 12
   pub small : Each (λ w. w < 2 ^ 64) (wordsOf a)
 
 word-back : (w : ℕ) → w < 2 ^ 64 → readWord (spell 8 w) ≡ w
 unfolding readWord num part spell
-word-back w h = value-spell 8 w h
+word-back w h = little-endian-spell 8 w h
 
 words-back : (ws : List ℕ) → Each (λ w. w < 2 ^ 64) ws → Each (λ w. readWord (spell 8 w) ≡ w) ws
 words-back ws h = each-map (λ w. w < 2 ^ 64) (λ w. readWord (spell 8 w) ≡ w) word-back ws h
@@ -86,7 +86,7 @@ module _ (a : Allocator) (t : length (a .unread) ≡ 12) where
   unfolding layAllocator wordsOf
   put-count x = put-laid 2 x (omega arith)
 
-  pub put-next : (x : ℕ) → over (layAllocator a) 24 (spell 8 x) ≡ layAllocator (withNext x a)
+  pub put-next : (x : ℕ) → over (layAllocator a) 24 (spell 8 x) ≡ layAllocator (withNextPtr x a)
   unfolding layAllocator wordsOf
   put-next x = put-laid 3 x (omega arith)
 
@@ -97,7 +97,7 @@ module _ (a : Allocator) (t : length (a .unread) ≡ 12) where
       let g : set (wordsOf a) (16 + k) p ≡ front a ++ set (a .words) k p = rw (← front-length) (set-append-add (front a) (a .words) k p) in
       rw e (put-laid (16 + k) p (omega arith) ∙ ap layWords g)
 
-module _ (a : Allocator) (f : Fits a) where
+module _ (a : Allocator) (f : WordsFit a) where
   pub word-laid : (k : ℕ) → k < 16 + length (a .words) → word (layAllocator a) (8 * k) ≡ getD (wordsOf a) k 0
   unfolding layAllocator
   word-laid k h = simp append-nil at (num-words (wordsOf a) [] k (f .small) (omega (arith, length-words a (f .twelve))))
@@ -156,7 +156,7 @@ module _ (a : Allocator) (f : Fits a) where
 
 -- ---- what is read fits
 
-pub read-fits : (l : List ℕ) → Bytes l → Formed l → Fits (readAllocator l)
+pub read-fits : (l : List ℕ) → Bytes l → WordsFormed l → WordsFit (readAllocator l)
 read-fits l b f = record { twelve = unfold readAllocator in length-table readWord 8 l 32 12; small = rw (words-of l f) (each-rows (λ w. w < 2 ^ 64) readWord 8 l 0 (length l / 8) (λ i h. below (0 + 8 * i) (omega arith))) }
   where
     below : (at : ℕ) → at + 8 ≤ length l → readWord (part l at 8) < 2 ^ 64

@@ -7,3 +7,4 @@ pub mod Accounts
 pub mod Counted
 pub mod Allocated
 pub mod Released
+pub mod OpenWords

@@ -16,26 +16,26 @@ use Rattle.types.specs.declared.Answer.the-variants.{Done}
 use Rattle.types.specs.declared.Error.the-variants.{UnsoundMemory, InvalidArgument}
 use Rattle.allocator.specs.Sizes.{acceptedSize, defaultSize}
 use Rattle.allocator.specs.Allocator.{marker}
-use Rattle.allocator.specs.Opening.{newMark, oldMark, marked, sizeMeant, sized, openable, remarked, resized, opened}
+use Rattle.allocator.specs.Opening.{newMark, oldMark, markKnown, sizeMeant, sizeAllowed, openable, markRenewed, sizeRenewed, opened}
 use Rattle.allocator.proofs.Sizes.{accepted-bounds}
 
 module _ (l : List ℕ) where
   -- ---- the marker: x is what the first four bytes spell
 
-  pub mark-new : {x : ℕ} → x ≡ num 4 l 0 → x ≡ newMark → true ≡ marked l
-  unfolding marked
+  pub mark-new : {x : ℕ} → x ≡ num 4 l 0 → x ≡ newMark → true ≡ markKnown l
+  unfolding markKnown
   mark-new e h = done _ _ (rw (← e) (eq-eqb _ _ h))
 
-  pub mark-other : {x : ℕ} → x ≡ num 4 l 0 → (x ≡ newMark → ⊥) → eqb x oldMark ≡ marked l
-  unfolding marked
+  pub mark-other : {x : ℕ} → x ≡ num 4 l 0 → (x ≡ newMark → ⊥) → eqb x oldMark ≡ markKnown l
+  unfolding markKnown
   mark-other e h = or-else _ _ (rw (← e) (ne-eqb _ _ h)) (rw e)
 
-  pub mark-renewed : {x : ℕ} {m : List ℕ} → x ≡ num 4 l 0 → x ≡ oldMark → m ≡ over l 0 (spell 8 marker) → m ≡ remarked l
-  unfolding remarked
+  pub mark-renewed : {x : ℕ} {m : List ℕ} → x ≡ num 4 l 0 → x ≡ oldMark → m ≡ over l 0 (spell 8 marker) → m ≡ markRenewed l
+  unfolding markRenewed
   mark-renewed e h q = pick-true _ _ _ _ (rw (← e) (eq-eqb _ _ h)) q
 
-  pub mark-kept : {x : ℕ} → x ≡ num 4 l 0 → (x ≡ oldMark → ⊥) → l ≡ remarked l
-  unfolding remarked
+  pub mark-kept : {x : ℕ} → x ≡ num 4 l 0 → (x ≡ oldMark → ⊥) → l ≡ markRenewed l
+  unfolding markRenewed
   mark-kept e h = pick-false _ _ _ _ (rw (← e) (ne-eqb _ _ h)) refl
 
   -- ---- the size: x is the size word
@@ -48,25 +48,25 @@ module _ (l : List ℕ) where
   unfolding sizeMeant
   size-stored e h = pick-false _ _ _ _ (rw (← e) (ne-eqb _ _ h)) e
 
-  pub sized-none : {x y : ℕ} → x ≡ word l 8 → x ≡ 0 → y ≡ word l 24 → eqb y 0 ≡ sized l
-  unfolding sized
+  pub sized-none : {x y : ℕ} → x ≡ word l 8 → x ≡ 0 → y ≡ word l 24 → eqb y 0 ≡ sizeAllowed l
+  unfolding sizeAllowed
   sized-none e h n = pick-true _ _ _ _ (rw (← e) (eq-eqb _ _ h)) (rw n)
 
-  pub sized-some : {x : ℕ} {r : Bool} → x ≡ word l 8 → (x ≡ 0 → ⊥) → r ≡ acceptedSize x → r ≡ sized l
-  unfolding sized
+  pub sized-some : {x : ℕ} {r : Bool} → x ≡ word l 8 → (x ≡ 0 → ⊥) → r ≡ acceptedSize x → r ≡ sizeAllowed l
+  unfolding sizeAllowed
   sized-some e h n = pick-false _ _ _ _ (rw (← e) (ne-eqb _ _ h)) (rw (← e) n)
 
-  pub size-renewed : {x : ℕ} {m : List ℕ} → x ≡ word l 8 → x ≡ 0 → m ≡ over l 8 (spell 8 defaultSize) → m ≡ resized l
-  unfolding resized
+  pub size-renewed : {x : ℕ} {m : List ℕ} → x ≡ word l 8 → x ≡ 0 → m ≡ over l 8 (spell 8 defaultSize) → m ≡ sizeRenewed l
+  unfolding sizeRenewed
   size-renewed e h q = pick-true _ _ _ _ (rw (← e) (eq-eqb _ _ h)) q
 
-  pub size-kept : {x : ℕ} → x ≡ word l 8 → (x ≡ 0 → ⊥) → l ≡ resized l
-  unfolding resized
+  pub size-kept : {x : ℕ} → x ≡ word l 8 → (x ≡ 0 → ⊥) → l ≡ sizeRenewed l
+  unfolding sizeRenewed
   size-kept e h = pick-false _ _ _ _ (rw (← e) (ne-eqb _ _ h)) refl
 
   -- a size that is meant is positive
-  pub meant-positive : {s : ℕ} → s ≡ sizeMeant l → sized l ≡ true → 0 < s
-  unfolding sizeMeant sized pick
+  pub meant-positive : {s : ℕ} → s ≡ sizeMeant l → sizeAllowed l ≡ true → 0 < s
+  unfolding sizeMeant sizeAllowed pick
   meant-positive {s} e h = go (eqb (word l 8) 0) refl
     where
       go : (t : Bool) → eqb (word l 8) 0 ≡ t → 0 < s
@@ -87,6 +87,6 @@ module _ (l : List ℕ) where
     unfolding opened
     open-unsound e = pick-false _ _ _ _ (le-ltb _ _ h) (pick-false _ _ _ _ e refl)
 
-    pub open-done : {m n : List ℕ} → openable l ≡ true → m ≡ remarked l → n ≡ resized m → outcome (Done 0) n ≡ opened l
+    pub open-done : {m n : List ℕ} → openable l ≡ true → m ≡ markRenewed l → n ≡ sizeRenewed m → outcome (Done 0) n ≡ opened l
     unfolding opened
     open-done e p q = pick-false _ _ _ _ (le-ltb _ _ h) (pick-true _ _ _ _ e (rw (q, p)))

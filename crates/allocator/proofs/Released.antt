@@ -14,7 +14,7 @@ use Rattle.allocator.specs.Pointers.{due, Accounted}
 use Rattle.words.proofs.Order.{each-append, each-left, each-right, each-set}
 use Rattle.allocator.specs.Allocator.{Allocator, free, release, wordsOf, released}
 use Rattle.allocator.proofs.Accounts.{freed-words}
-use Rattle.allocator.proofs.Laid.{Fits}
+use Rattle.allocator.proofs.Laid.{WordsFit}
 
 -- what freeing so many pointers makes of an allocator, but for which ones are free
 pub record Freed (k : ℕ) (a b : Allocator) : Type 0 where
@@ -65,7 +65,7 @@ release-last (q ∷ ps) p a = release-last ps p (release q a)
 
 -- ---- words that are numbers of 64 bits
 
-release-fits : (p : ℕ) (a : Allocator) → p < 2 ^ 64 → a .freeCount + 1 < 2 ^ 64 → Fits a → Fits (release p a)
+release-fits : (p : ℕ) (a : Allocator) → p < 2 ^ 64 → a .freeCount + 1 < 2 ^ 64 → WordsFit a → WordsFit (release p a)
 unfolding release wordsOf Each
 release-fits p a h k f =
     let s = f .small in
@@ -87,7 +87,7 @@ release-fits p a h k f =
       );
     }
 
-pub all-fit : (ps : List ℕ) (a : Allocator) → Each (λ p. p < 2 ^ 64) ps → a .freeCount + length ps < 2 ^ 64 → Fits a → Fits (released ps a)
+pub all-fit : (ps : List ℕ) (a : Allocator) → Each (λ p. p < 2 ^ 64) ps → a .freeCount + length ps < 2 ^ 64 → WordsFit a → WordsFit (released ps a)
 unfolding released Each
 all-fit [] a h k f = f
 all-fit (p ∷ ps) a h k f = all-fit ps (release p a) (h .1) fits (release-fits p a (h .0) (omega arith) f)

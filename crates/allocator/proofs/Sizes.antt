@@ -7,13 +7,13 @@ use Prim.Native.Nat.{ℕ, _≤_}
 use native.Mathlib.Omega.{arith}
 use lib.Dec.{eqb}
 use borrow.Author.Tests.{ne-eqb}
-use Rattle.words.specs.Rules.{pick, either}
-use Rattle.words.proofs.Rules.{Says, holds, says-either, says-eqb, says-true}
+use Rattle.words.specs.Rules.{pick, either, Says, holds}
+use Rattle.words.proofs.Rules.{says-either, says-eqb, says-true}
 use Rattle.types.specs.declared.Answer.the-variants.{Done, Refused}
 use Rattle.types.specs.declared.Error.{Error}
 use Rattle.types.specs.declared.Error.the-variants.{InvalidArgument}
 use Rattle.allocator.specs.Sizes.{acceptedSize}
-use Rattle.allocator.specs.Allocator.{Allocator, Step, withSize, setChunkSize}
+use Rattle.allocator.specs.Allocator.{Allocator, AllocatorStep, withSize, setChunkSize}
 
 pub accepted-1 : {s : ℕ} → s ≡ 4096 → true ≡ acceptedSize s
 unfolding acceptedSize either
@@ -47,7 +47,7 @@ accepted-bounds s e = go (says-true (says-accepted s) e)
 -- ---- a size set
 
 -- what holds of a refusal, of the size that is set already, and of another accepted one while word 3 is 0, holds of the call
-pub size-cases : (P : Step → Type 0) (s : ℕ) (a : Allocator) → ((e : Error) → P (record { answer = Refused e; after = a })) → P (record { answer = Done 0; after = a })
+pub size-cases : (P : AllocatorStep → Type 0) (s : ℕ) (a : Allocator) → ((e : Error) → P (record { answer = Refused e; after = a })) → P (record { answer = Done 0; after = a })
     → (acceptedSize s ≡ true → a .nextPtr ≡ 0 → P (record { answer = Done 0; after = withSize s a })) → P (setChunkSize s a)
 unfolding setChunkSize pick
 size-cases P s a refusal same other = go (acceptedSize s) refl (eqb (a .chunkSize) s) (eqb (a .nextPtr) 0) (says-eqb (a .nextPtr) 0)

@@ -17,8 +17,8 @@ use Rattle.types.specs.declared.Error.the-variants.{InvalidArgument}
 use Rattle.allocator.specs.declared.Popped.{Popped}
 use Rattle.allocator.specs.declared.Popped.the-variants.{Pointer, Nothing}
 use Rattle.allocator.specs.Sizes.{acceptedSize}
-use Rattle.allocator.specs.Allocator.{Step, readAllocator, layAllocator, readWord, withSize, withWords, allocate, release, setChunkSize}
-use Rattle.allocator.specs.Words.{Formed, lastFree, withoutLast}
+use Rattle.allocator.specs.Allocator.{AllocatorStep, readAllocator, layAllocator, readWord, withSize, withWords, allocate, release, setChunkSize}
+use Rattle.allocator.specs.Words.{WordsFormed, lastFree, withoutLast}
 use Rattle.allocator.proofs.AllocateCases.{takes-new, takes-last}
 use Rattle.allocator.proofs.Laid.{first-word, laid-again, read-fits, put-size, put-count, put-next, put-free}
 
@@ -44,7 +44,7 @@ no-last l h = go (eqb (word l 16) 0) refl
         let c : _≡_ {A = ℕ} 0 1 = cc in
         absurd (omega arith)
 
-module _ (l : List ℕ) (b : Bytes l) (f : Formed l) where
+module _ (l : List ℕ) (b : Bytes l) (f : WordsFormed l) where
   -- bytes written over l are written over its record's
   over-l : (at : ℕ) (bs : List ℕ) → over l at bs ≡ over (layAllocator (readAllocator l)) at bs
   over-l at bs = ap (λ (m : List ℕ). over m at bs) (sym (laid-again l b f))
@@ -99,7 +99,7 @@ module _ (l : List ℕ) (b : Bytes l) (f : Formed l) where
   abbrev SizeStep : ℕ → Answer → List ℕ → Type 0
   SizeStep s r m = (r ≡ setChunkSize s (readAllocator l) .answer) × (m ≡ layAllocator (setChunkSize s (readAllocator l) .after))
 
-  as-step : (s : ℕ) (t : Step) {m : List ℕ} → t ≡ setChunkSize s (readAllocator l) → m ≡ layAllocator (t .after) → SizeStep s (t .answer) m
+  as-step : (s : ℕ) (t : AllocatorStep) {m : List ℕ} → t ≡ setChunkSize s (readAllocator l) → m ≡ layAllocator (t .after) → SizeStep s (t .answer) m
   as-step s t e h = (ap (λ u. u .answer) e, h ∙ ap (λ u. layAllocator (u .after)) e)
 
   pub size-not-accepted : (s : ℕ) → acceptedSize s ≡ false → SizeStep s (Refused InvalidArgument) l

@@ -1,4 +1,4 @@
--- The allocator's words as a record, read off its bytes and laid out again, and what each call makes of it.
+-- Believed: the allocator's words as a record, read off its bytes and laid out again, and what each call makes of it.
 -- Assumes nothing.
 use Prim.Native.Nat.{ℕ, _+_, _-_, _/_}
 use mathlib.Core.List.{List, [], _∷_, _++_}
@@ -60,38 +60,38 @@ withSize s a = record { mark = a .mark; chunkSize = s; freeCount = a .freeCount;
 abbrev pub withCount : ℕ → Allocator → Allocator
 withCount n a = record { mark = a .mark; chunkSize = a .chunkSize; freeCount = n; nextPtr = a .nextPtr; unread = a .unread; words = a .words }
 
-abbrev pub withNext : ℕ → Allocator → Allocator
-withNext p a = record { mark = a .mark; chunkSize = a .chunkSize; freeCount = a .freeCount; nextPtr = p; unread = a .unread; words = a .words }
+abbrev pub withNextPtr : ℕ → Allocator → Allocator
+withNextPtr p a = record { mark = a .mark; chunkSize = a .chunkSize; freeCount = a .freeCount; nextPtr = p; unread = a .unread; words = a .words }
 
 abbrev pub withWords : List ℕ → Allocator → Allocator
 withWords ws a = record { mark = a .mark; chunkSize = a .chunkSize; freeCount = a .freeCount; nextPtr = a .nextPtr; unread = a .unread; words = ws }
 
 -- ---- the calls
 
-pub record Taken : Type 0 where
+pub record Allocation : Type 0 where
   pub pointer : ℕ
   pub after : Allocator
 
 -- the free pointer last freed
-abbrev pub popped : Allocator → Taken
-popped a = record { pointer = getD (a .words) (a .freeCount - 1) 0; after = withCount (a .freeCount - 1) a }
+abbrev pub reused : Allocator → Allocation
+reused a = record { pointer = getD (a .words) (a .freeCount - 1) 0; after = withCount (a .freeCount - 1) a }
 
 -- word 3, which grows by the chunk size
-abbrev pub grown : Allocator → Taken
-grown a = record { pointer = a .nextPtr; after = withNext (a .nextPtr + a .chunkSize) a }
+abbrev pub grown : Allocator → Allocation
+grown a = record { pointer = a .nextPtr; after = withNextPtr (a .nextPtr + a .chunkSize) a }
 
-unfoldable pub allocate : Allocator → Taken
-allocate a = pick (eqb (a .freeCount) 0) (grown a) (popped a)
+unfoldable pub allocate : Allocator → Allocation
+allocate a = pick (eqb (a .freeCount) 0) (grown a) (reused a)
 
 unfoldable pub release : ℕ → Allocator → Allocator
 release p a = withCount (a .freeCount + 1) (withWords (set (a .words) (a .freeCount) p) a)
 
-pub record Step : Type 0 where
+pub record AllocatorStep : Type 0 where
   pub answer : Answer
   pub after : Allocator
 
 -- refused if the size is not accepted, or is another one while word 3 is not 0
-unfoldable pub setChunkSize : ℕ → Allocator → Step
+unfoldable pub setChunkSize : ℕ → Allocator → AllocatorStep
 setChunkSize s a =
     pick (acceptedSize s)
     (pick (eqb (a .chunkSize) s) (record { answer = Done 0; after = a })

@@ -1,4 +1,4 @@
--- Allocator open, on its words only, in the scope's order.
+-- Believed: allocator open, on its words only, in the scope's order.
 -- Assumes nothing.
 use Prim.Native.Nat.{ℕ, _+_, _-_, _*_, _/_, _%_}
 use mathlib.Core.Bool.{Bool, not}
@@ -19,15 +19,15 @@ newMark = marker
 abbrev pub oldMark : ℕ
 oldMark = 827280449
 
-unfoldable pub marked : List ℕ → Bool
-marked l = either (eqb (num 4 l 0) newMark) (eqb (num 4 l 0) oldMark)
+unfoldable pub markKnown : List ℕ → Bool
+markKnown l = either (eqb (num 4 l 0) newMark) (eqb (num 4 l 0) oldMark)
 
 -- size word 0 stands for the default, while word 3 is 0
 unfoldable pub sizeMeant : List ℕ → ℕ
 sizeMeant l = pick (eqb (word l 8) 0) defaultSize (word l 8)
 
-unfoldable pub sized : List ℕ → Bool
-sized l = pick (eqb (word l 8) 0) (eqb (word l 24) 0) (acceptedSize (word l 8))
+unfoldable pub sizeAllowed : List ℕ → Bool
+sizeAllowed l = pick (eqb (word l 8) 0) (eqb (word l 24) 0) (acceptedSize (word l 8))
 
 unfoldable pub freeWord : List ℕ → ℕ → ℕ
 freeWord l i = word l (128 + 8 * i)
@@ -36,25 +36,25 @@ freeWord l i = word l (128 + 8 * i)
 unfoldable pub lined : ℕ → ℕ → ℕ → Bool
 lined s next p = both (eqb (p % s) 0) (ltb p next)
 
-unfoldable pub freeLined : List ℕ → ℕ → Bool
-freeLined l s = upto (word l 16) (λ i. lined s (word l 24) (freeWord l i))
+unfoldable pub freeWordsLined : List ℕ → ℕ → Bool
+freeWordsLined l s = upto (word l 16) (λ i. lined s (word l 24) (freeWord l i))
 
-unfoldable pub freeApart : List ℕ → Bool
-freeApart l = apart (word l 16) (λ j i. eqb (freeWord l j) (freeWord l i))
+unfoldable pub freeWordsApart : List ℕ → Bool
+freeWordsApart l = apart (word l 16) (λ j i. eqb (freeWord l j) (freeWord l i))
 
-unfoldable pub pointersGood : List ℕ → ℕ → Bool
-pointersGood l s = both (eqb (word l 24 % s) 0) (both (leb (word l 16) (freeRoom l)) (both (freeLined l s) (freeApart l)))
+unfoldable pub freeWordsGood : List ℕ → ℕ → Bool
+freeWordsGood l s = both (eqb (word l 24 % s) 0) (both (leb (word l 16) (freeRoom l)) (both (freeWordsLined l s) (freeWordsApart l)))
 
 unfoldable pub openable : List ℕ → Bool
-openable l = both (marked l) (both (sized l) (pointersGood l (sizeMeant l)))
+openable l = both (markKnown l) (both (sizeAllowed l) (freeWordsGood l (sizeMeant l)))
 
 -- `ALO1` becomes `FSA1` and four zeros
-unfoldable pub remarked : List ℕ → List ℕ
-remarked l = pick (eqb (num 4 l 0) oldMark) (over l 0 (spell 8 marker)) l
+unfoldable pub markRenewed : List ℕ → List ℕ
+markRenewed l = pick (eqb (num 4 l 0) oldMark) (over l 0 (spell 8 marker)) l
 
 -- size word 0 becomes the default
-unfoldable pub resized : List ℕ → List ℕ
-resized l = pick (eqb (word l 8) 0) (over l 8 (spell 8 defaultSize)) l
+unfoldable pub sizeRenewed : List ℕ → List ℕ
+sizeRenewed l = pick (eqb (word l 8) 0) (over l 8 (spell 8 defaultSize)) l
 
 unfoldable pub opened : List ℕ → Outcome
-opened l = pick (ltb (length l) 128) (refused InvalidArgument l) (pick (openable l) (done 0 (resized (remarked l))) (refused UnsoundMemory l))
+opened l = pick (ltb (length l) 128) (refused InvalidArgument l) (pick (openable l) (done 0 (sizeRenewed (markRenewed l))) (refused UnsoundMemory l))

@@ -1,4 +1,4 @@
--- The chunk sizes accepted, and the one taken where none is stored.
+-- Believed: the chunk sizes accepted, and the one taken where none is stored.
 -- Assumes nothing.
 use Prim.Native.Nat.{ℕ}
 use mathlib.Core.Bool.{Bool}

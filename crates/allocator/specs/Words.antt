@@ -1,4 +1,4 @@
--- What the allocator's functions ask of its words, and what they read and write there.
+-- Inner: what the allocator's functions ask of its words, and what they read and write there.
 -- Assumes nothing.
 use mathlib.Core.Path.{_≡_}
 use Prim.Native.Nat.{ℕ, _+_, _-_, _*_, _/_, _%_, _^_, _≤_, _<_}
@@ -14,7 +14,7 @@ use Rattle.allocator.specs.declared.Popped.{Popped}
 use Rattle.allocator.specs.declared.Popped.the-variants.{Pointer, Nothing}
 
 -- whole words, at least sixteen, and no more free pointers than words for them
-pub record Formed (l : List ℕ) : Type 0 where
+pub record WordsFormed (l : List ℕ) : Type 0 where
   pub least : 128 ≤ length l
   pub whole : length l % 8 ≡ 0
   pub count : 128 + 8 * word l 16 ≤ length l

@@ -12,7 +12,7 @@ ghost use lib.ListN.{length};
 ghost use Rattle.words.specs.Bytes.{word, over, spell};
 ghost use Rattle.allocator.specs.Sizes.{acceptedSize};
 ghost use Rattle.allocator.specs.Allocator.{readAllocator, layAllocator, allocate, release, setChunkSize};
-ghost use Rattle.allocator.specs.Words.{Formed, Takable, lastFree, withoutLast, wellMarked};
+ghost use Rattle.allocator.specs.Words.{WordsFormed, Takable, lastFree, withoutLast, wellMarked};
 
 // Word 0: `FSA1` and four zero bytes.
 pub const MARKER: u64 = 826364742;
@@ -104,7 +104,7 @@ fn pop_ptr(words: &mut [u8]) -> Popped
 
 // The free pointer last freed, else a new one.
 pub fn allocate(words: &mut [u8]) -> u64
-    requires { ⌜ (Formed (now words)) × (Takable (now words)) ⌝ }
+    requires { ⌜ (WordsFormed (now words)) × (Takable (now words)) ⌝ }
     ensures { λ r. ⌜ (r ≡ allocate (readAllocator (now (words .entry))) .pointer) × (now (words .exit) ≡ layAllocator (allocate (readAllocator (now (words .entry))) .after)) ⌝ }
 {
     let popped = pop_ptr(words);
@@ -116,7 +116,7 @@ pub fn allocate(words: &mut [u8]) -> u64
 
 // Takes a pointer back: it is the next one given out.
 pub fn free(words: &mut [u8], pointer: u64)
-    requires { ⌜ (Formed (now words)) × (128 + 8 * word (now words) 16 + 8 ≤ length (now words)) ⌝ }
+    requires { ⌜ (WordsFormed (now words)) × (128 + 8 * word (now words) 16 + 8 ≤ length (now words)) ⌝ }
     ensures { λ _. ⌜ now (words .exit) ≡ layAllocator (release pointer (readAllocator (now (words .entry)))) ⌝ }
 {
     push_ptr(words, pointer);
@@ -124,7 +124,7 @@ pub fn free(words: &mut [u8], pointer: u64)
 
 // The size may change only while no chunk was ever given out.
 pub fn set_chunk_size(words: &mut [u8], span: u64) -> Answer
-    requires { ⌜ Formed (now words) ⌝ }
+    requires { ⌜ WordsFormed (now words) ⌝ }
     ensures { λ r. ⌜ (r ≡ setChunkSize span (readAllocator (now (words .entry))) .answer) × (now (words .exit) ≡ layAllocator (setChunkSize span (readAllocator (now (words .entry))) .after)) ⌝ }
 {
     if !accepted(span) {

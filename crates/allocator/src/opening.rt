@@ -15,7 +15,7 @@ ghost use lib.Dec.{eqb};
 ghost use Rattle.words.specs.Bytes.{word};
 ghost use Rattle.words.specs.Rules.{upto, apart};
 ghost use Rattle.types.specs.Outcomes.{outcome};
-ghost use Rattle.allocator.specs.Opening.{marked, sizeMeant, sized, freeWord, lined, pointersGood, openable, remarked, resized, opened};
+ghost use Rattle.allocator.specs.Opening.{markKnown, sizeMeant, sizeAllowed, freeWord, lined, freeWordsGood, openable, markRenewed, sizeRenewed, opened};
 
 // The first four bytes of older words: `ALO1`.
 const OLD_MARK: u64 = 827280449;
@@ -27,7 +27,7 @@ const LEAST: usize = types::WORD * types::ALLOCATOR_WORDS;
 // Whether words have a marker, this one or the older.
 fn is_marked(words: &[u8]) -> bool
     requires { ⌜ 128 ≤ length (now words) ⌝ }
-    ensures { λ r. ⌜ r ≡ marked (now (words .entry)) ⌝ }
+    ensures { λ r. ⌜ r ≡ markKnown (now (words .entry)) ⌝ }
 {
     let mark = words::get32(words, 0);
     if mark == MARKER {
@@ -51,7 +51,7 @@ fn size_meant(words: &[u8]) -> u64
 // Whether the size is unset and no pointer was given out, or is accepted.
 fn is_sized(words: &[u8]) -> bool
     requires { ⌜ 128 ≤ length (now words) ⌝ }
-    ensures { λ r. ⌜ r ≡ sized (now (words .entry)) ⌝ }
+    ensures { λ r. ⌜ r ≡ sizeAllowed (now (words .entry)) ⌝ }
 {
     let span = words::get64(words, CHUNK_SIZE);
     if span == 0 {
@@ -120,7 +120,7 @@ fn all_apart(words: &[u8], count: usize) -> bool
 // Whether word 3 and the free pointers can be of a chunk size.
 fn pointers_good(words: &[u8], span: u64) -> bool
     requires { ⌜ (128 ≤ length (now words)) × (0 < span) ⌝ }
-    ensures { λ r. ⌜ r ≡ pointersGood (now (words .entry)) span ⌝ }
+    ensures { λ r. ⌜ r ≡ freeWordsGood (now (words .entry)) span ⌝ }
 {
     let next = words::get64(words, MAX_PTR);
     if next % span != 0 {
@@ -154,7 +154,7 @@ fn is_openable(words: &[u8]) -> bool
 // Writes the marker of today.
 fn renew_mark(words: &mut [u8])
     requires { ⌜ 128 ≤ length (now words) ⌝ }
-    ensures { λ _. ⌜ now (words .exit) ≡ remarked (now (words .entry)) ⌝ }
+    ensures { λ _. ⌜ now (words .exit) ≡ markRenewed (now (words .entry)) ⌝ }
 {
     if words::get32(words, 0) == OLD_MARK {
         words::put64(words, 0, MARKER);
@@ -164,7 +164,7 @@ fn renew_mark(words: &mut [u8])
 // Writes the default size where none is stored.
 fn renew_size(words: &mut [u8])
     requires { ⌜ 128 ≤ length (now words) ⌝ }
-    ensures { λ _. ⌜ now (words .exit) ≡ resized (now (words .entry)) ⌝ }
+    ensures { λ _. ⌜ now (words .exit) ≡ sizeRenewed (now (words .entry)) ⌝ }
 {
     if words::get64(words, CHUNK_SIZE) == 0 {
         words::put64(words, CHUNK_SIZE, DEFAULT_CHUNK_SIZE);

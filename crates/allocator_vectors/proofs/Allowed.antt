@@ -9,10 +9,10 @@ use borrow.Author.Tests.{leb-true}
 use lib.Dec.{leb}
 use lib.ListN.{length}
 use Rattle.words.specs.Bytes.{word}
-use Rattle.allocator.specs.Words.{Formed, Takable}
+use Rattle.allocator.specs.Words.{WordsFormed, Takable}
 
 module _ (l : List ℕ) where
-  pub formed-of : (count room : ℕ) → 128 ≤ length l → length l % 8 ≡ 0 → count ≡ word l 16 → 128 + 8 * room ≤ length l → leb count room ≡ true → Formed l
+  pub formed-of : (count room : ℕ) → 128 ≤ length l → length l % 8 ≡ 0 → count ≡ word l 16 → 128 + 8 * room ≤ length l → leb count room ≡ true → WordsFormed l
   formed-of count room least whole counted held fits = record {
     least = least;
     whole = whole;

@@ -6,7 +6,7 @@ ghost use mathlib.Core.Path.{_≡_};
 ghost use mathlib.Core.Bool.{true};
 ghost use Prim.Native.Nat.{_+_, _*_, _≤_, _<_};
 ghost use lib.ListN.{length};
-ghost use Rattle.allocator.specs.Words.{Formed, Takable};
+ghost use Rattle.allocator.specs.Words.{WordsFormed, Takable};
 
 // What a line starts with.
 const BEGIN: u64 = 1;
@@ -32,7 +32,7 @@ const NEXT_POINTER: usize = 24;
 const FIRST_POINTER: usize = 128;
 
 // What is read of the text so far.
-struct Totals {
+struct RunTotals {
     next: usize,
     runs: usize,
     steps: usize,
@@ -53,14 +53,14 @@ struct Head {
 }
 
 // A step up to its words. Where a call has no argument or no answer, that is 0.
-struct Call {
+struct AllocatorCall {
     name: u64,
     argument: u64,
     answer: u64,
     next: usize,
 }
 
-enum Outcome {
+enum StepAnswer {
     Answer(u64),
     Forbidden,
 }
@@ -72,7 +72,7 @@ fn main() {
 }
 
 fn replay(text: &[u8]) {
-    let mut totals = Totals {
+    let mut totals = RunTotals {
         next: 0,
         runs: 0,
         steps: 0,
@@ -84,13 +84,13 @@ fn replay(text: &[u8]) {
 }
 
 // The run that begins next. Any other line ends the text.
-fn run(text: &[u8], totals: Totals) -> Totals
+fn run(text: &[u8], totals: RunTotals) -> RunTotals
     requires { ⌜ (totals .next < length (now text)) × (totals .runs ≤ totals .next) × (totals .steps ≤ totals .next) ⌝ }
     ensures { λ r. ⌜ (totals .next < r .next) × (r .next ≤ length (now (text .entry))) × (r .runs ≤ r .next) × (r .steps ≤ r .next) ⌝ }
 {
     let head = read_head(text, totals.next);
     if head.name != BEGIN {
-        return Totals {
+        return RunTotals {
             next: text.len(),
             runs: totals.runs,
             steps: totals.steps,
@@ -101,7 +101,7 @@ fn run(text: &[u8], totals: Totals) -> Totals
     let mut expected = blank();
     let end = steps(text, head.next, &mut words[..n], &mut expected[..n]);
     print_run(totals.runs + 1, end);
-    Totals {
+    RunTotals {
         next: end.next,
         runs: totals.runs + 1,
         steps: totals.steps + end.steps,
@@ -202,7 +202,7 @@ fn step(text: &[u8], before: Progress, words: &mut [u8], expected: &mut [u8]) ->
     }
 }
 
-fn read_call(text: &[u8], at: usize) -> Call
+fn read_call(text: &[u8], at: usize) -> AllocatorCall
     requires { ⌜ at < length (now text) ⌝ }
     ensures { λ r. ⌜ (at < r .next) × (r .next ≤ length (now (text .entry))) ⌝ }
 {
@@ -212,20 +212,20 @@ fn read_call(text: &[u8], at: usize) -> Call
     match name {
         SET_CHUNK_SIZE => {
             let answer = vectors::number(text, number.next);
-            Call {
+            AllocatorCall {
                 name: name,
                 argument: number.value,
                 answer: answer.value,
                 next: answer.next,
             }
         }
-        FREE => Call {
+        FREE => AllocatorCall {
             name: name,
             argument: number.value,
             answer: 0,
             next: number.next,
         },
-        _ => Call {
+        _ => AllocatorCall {
             name: name,
             argument: 0,
             answer: number.value,
@@ -237,7 +237,7 @@ fn read_call(text: &[u8], at: usize) -> Call
 // The first step that differs, at this step or earlier, or 0.
 fn first_difference(
     words: &mut [u8],
-    call: Call,
+    call: AllocatorCall,
     expected: &[u8],
     earlier: usize,
     step: usize,
@@ -251,59 +251,59 @@ fn first_difference(
     step
 }
 
-fn agrees(words: &mut [u8], call: Call, expected: &[u8]) -> bool {
+fn agrees(words: &mut [u8], call: AllocatorCall, expected: &[u8]) -> bool {
     match carry_out(words, call.name, call.argument) {
-        Outcome::Answer(answer) => {
+        StepAnswer::Answer(answer) => {
             if answer != call.answer {
                 return false;
             }
             words::same(words, expected)
         }
-        Outcome::Forbidden => false,
+        StepAnswer::Forbidden => false,
     }
 }
 
-fn carry_out(words: &mut [u8], name: u64, argument: u64) -> Outcome {
+fn carry_out(words: &mut [u8], name: u64, argument: u64) -> StepAnswer {
     match name {
-        OPEN => Outcome::Answer(types::number(allocator::open(words)) as u64),
+        OPEN => StepAnswer::Answer(types::number(allocator::open(words)) as u64),
         SET_CHUNK_SIZE => set_chunk_size(words, argument),
         ALLOCATE => allocate(words),
         FREE => free(words, argument),
-        _ => Outcome::Forbidden,
+        _ => StepAnswer::Forbidden,
     }
 }
 
-fn set_chunk_size(words: &mut [u8], size: u64) -> Outcome {
+fn set_chunk_size(words: &mut [u8], size: u64) -> StepAnswer {
     if !formed(words) {
-        return Outcome::Forbidden;
+        return StepAnswer::Forbidden;
     }
-    Outcome::Answer(types::number(allocator::set_chunk_size(words, size)) as u64)
+    StepAnswer::Answer(types::number(allocator::set_chunk_size(words, size)) as u64)
 }
 
-fn allocate(words: &mut [u8]) -> Outcome {
+fn allocate(words: &mut [u8]) -> StepAnswer {
     if !formed(words) {
-        return Outcome::Forbidden;
+        return StepAnswer::Forbidden;
     }
     if !takable(words) {
-        return Outcome::Forbidden;
+        return StepAnswer::Forbidden;
     }
-    Outcome::Answer(allocator::allocate(words))
+    StepAnswer::Answer(allocator::allocate(words))
 }
 
-fn free(words: &mut [u8], pointer: u64) -> Outcome {
+fn free(words: &mut [u8], pointer: u64) -> StepAnswer {
     if !formed(words) {
-        return Outcome::Forbidden;
+        return StepAnswer::Forbidden;
     }
     if free_room(words) <= words::get64(words, FREE_COUNT) {
-        return Outcome::Forbidden;
+        return StepAnswer::Forbidden;
     }
     allocator::free(words, pointer);
-    Outcome::Answer(0)
+    StepAnswer::Answer(0)
 }
 
 // Whether the words are such as set chunk size, allocate and free ask for.
 fn formed(words: &[u8]) -> bool
-    ensures { λ r. ⌜ (r ≡ true → Formed (now (words .entry))) ⌝ }
+    ensures { λ r. ⌜ (r ≡ true → WordsFormed (now (words .entry))) ⌝ }
 {
     if words.len() < FIRST_POINTER {
         return false;
@@ -347,7 +347,7 @@ fn print_run(run: usize, progress: Progress) {
     io::write_all(STDOUT_FILENO, b" steps\n");
 }
 
-fn print_totals(totals: Totals) {
+fn print_totals(totals: RunTotals) {
     io::write_all(STDOUT_FILENO, b"all ");
     io::print_decimal(STDOUT_FILENO, totals.runs as u64);
     io::write_all(STDOUT_FILENO, b" runs, ");

@@ -30,11 +30,6 @@ const FIRST_SIZE: usize = 728;
 
 const NODES: u64 = 8;
 
-// Bytes made of a seed: this many different ones, none of them 0.
-const DIFFERENT: u64 = 251;
-
-const STEP: u64 = 7;
-
 // The line of a call. Place: the offset, the new size or the limit. Length: the bytes to read or write, or 1 where there is to be a limit.
 struct Call {
     name: u64,
@@ -155,7 +150,7 @@ fn read_call(text: &[u8], at: usize) -> Call
 
 // The buffer is filled before a read too, so that its sum shows what the read leaves.
 fn carry_out(volume: &mut [u8], call: Call, buffer: &mut [u8]) {
-    fill(buffer, call.seed);
+    vectors::fill(buffer, call.seed);
     let answer = ask(volume, call, buffer);
     print_answer(answer);
     io::print_decimal(STDOUT_FILENO, size_of(volume, call.node));
@@ -181,17 +176,6 @@ fn limit_of(call: Call) -> Limit {
         return Limit::Unlimited;
     }
     Limit::AtMost(call.place)
-}
-
-// Byte i is (seed + 7 i) mod 251, plus 1.
-fn fill(buffer: &mut [u8], seed: u64) {
-    let mut value = seed % DIFFERENT;
-    let mut i = 0;
-    while i < buffer.len() {
-        buffer[i] = (value + 1) as u8;
-        value = (value + STEP) % DIFFERENT;
-        i += 1;
-    }
 }
 
 // The size in the node's row, or 0 for a node beyond the rows.

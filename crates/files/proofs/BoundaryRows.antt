@@ -29,7 +29,7 @@ use Rattle.volume.specs.Steps.{Step, becomes, withNode}
 use Rattle.allocator.specs.Allocator.{free, allocate, release, released}
 use Rattle.store.proofs.SizeSet.{unused}
 use Rattle.tables.proofs.NodeRows.{node-is}
-use Rattle.tables.specs.Tables.{sized, chunk}
+use Rattle.tables.specs.OneRow.{sized, chunk}
 use Rattle.store.specs.Content.{byteAt, bytesFrom}
 use Rattle.store.specs.Cut.{goes, cutFrom, cramped, tailZeroed, shrunk}
 use Rattle.store.specs.Room.{room, missing, holes}
@@ -37,7 +37,8 @@ use Rattle.files.specs.Boundary.{Start, row, P1, P2, P3, P4, P5, P6, P7}
 use Rattle.store.specs.Written.{writeChunks, writeChunk, put, putFor, written}
 use Rattle.store.specs.Taken.{ensured, ensuredFor, taken}
 use Rattle.files.specs.Write.{write, writeFile}
-use Rattle.files.proofs.WriteKept.{endOf, wrote, write-kept}
+use Rattle.files.proofs.WriteKept.{wrote, write-kept}
+use Rattle.files.specs.Effects.{writtenSize}
 use Rattle.files.proofs.Reshaped.{reshaped}
 use Rattle.tables.proofs.ChangedNames.{node-here}
 use Rattle.files.specs.Read.{readCount, readFile, read}
@@ -104,6 +105,10 @@ module _ (n : ℕ) (r : NodeRecord) (v : Volume) (there : node n (v .names) ≡ 
       let i : r .node ≡ n = node-is n (v .names) r there in
       rw (there, i) (sym (pick-false _ _ _ _ not-directory (pick-false _ _ _ _ (ne-eqb _ _ h) (pick-false _ _ _ _ (le-ltb _ _ l) (pick-false _ _ _ _ (le-ltb _ _ e) refl)))))
 
+  writes-none : (offset : ℕ) → write n offset [] v ≡ becomes 0 v
+  unfolding write writeFile onFile onRow pick
+  writes-none offset = rw (there, file) refl
+
   grows : (z : ℕ) → z ≤ fileLimit (r .limit) → r .size ≤ z → resize n z v ≡ becomes 0 (onNames (withNode n (sized z)) v)
   unfolding resize resizeFile onFile onRow
   grows z l h =
@@ -158,11 +163,11 @@ module _ (n : ℕ) (r : NodeRecord) (v : Volume) (s : Start n r v) where
 
     p1-here : P1 n r u bytes
     p1-here =
-        let e : endOf 16383 bytes r ≡ 16386 = omega (arith, s .empty) in
+        let e : writtenSize 16383 bytes r ≡ 16386 = omega (arith, s .empty) in
         rw writes-two (
           refl,
           ap (λ (t : Store). t .chunks) two-written,
-          node-here n (sized (endOf 16383 bytes r)) (λ a. refl) r (u .names) its-row ∙ ap (λ (k : ℕ). some (sized k r)) e,
+          node-here n (sized (writtenSize 16383 bytes r)) (λ a. refl) r (u .names) its-row ∙ ap (λ (k : ℕ). some (sized k r)) e,
         )
 
   -- ---- the two chunks cut to one
@@ -225,9 +230,9 @@ module _ (n : ℕ) (r : NodeRecord) (v : Volume) (s : Start n r v) where
 
     its-full : write n 16383 (bytes a b c) u .after ≡ full filled
     its-full =
-        let e : endOf 16383 (bytes a b c) r ≡ 16386 = omega (arith, s .empty) in
+        let e : writtenSize 16383 (bytes a b c) r ≡ 16386 = omega (arith, s .empty) in
         ap (λ (t : Step). t .after) (writes-two a b c)
-        ∙ ap (λ (t : Store). reshaped n (endOf 16383 (bytes a b c) r) t v) (two-written a b c)
+        ∙ ap (λ (t : Store). reshaped n (writtenSize 16383 (bytes a b c) r) t v) (two-written a b c)
         ∙ ap (λ (k : ℕ). reshaped n k (shape (v .store) 32768 (row n 0 0 ∷ row n 1 16384 ∷ []) filled) v) e
 
     long : 16383 ≤ length filled
@@ -291,9 +296,10 @@ p2 n r v bs s h = subst (λ w. P2 n w bs) (start-shape n r v s) (three (P2 n (u 
 pub p3 : (n : ℕ) (r : NodeRecord) (v : Volume) (bs : List ℕ) → Start n r v → length bs ≡ 3 → P3 n v bs
 p3 n r v bs s h = subst (λ w. P3 n w bs) (start-shape n r v s) (three (P3 n (u n r v s)) (p3-here n r v s) bs h)
 
-pub p4 : (n : ℕ) (r : NodeRecord) (v : Volume) → Start n r v → P4 n v
-unfolding write writeFile onFile onRow pick
-p4 n r v s = rw (s .there, s .file) (refl, refl)
+pub p4 : (n : ℕ) (r : NodeRecord) (v : Volume) (bs : List ℕ) → Start n r v → length bs ≡ 3 → P4 n r v bs
+p4 n r v bs s h =
+    let there : node n (write n 16383 bs v .after .names) ≡ some (sized 16386 r) = p1 n r v bs s h .2 in
+    rw (writes-none n (sized 16386 r) (write n 16383 bs v .after) there (s .file) 18446744073709551615) (refl, refl, there)
 
 pub p5 : (n : ℕ) (r : NodeRecord) (v : Volume) (b : ℕ) → Start n r v → P5 n v b
 unfolding write writeFile onFile onRow pick

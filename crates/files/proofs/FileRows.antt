@@ -29,7 +29,8 @@ use Rattle.tables.proofs.NodeRows.{node-is}
 use Rattle.files.specs.declared.files.RowAt.{RowAt}
 use Rattle.files.specs.declared.files.FileRow.{FileRow}
 use Rattle.files.specs.declared.files.FileRow.the-variants.{At, Refused}
-use Rattle.files.specs.Files.{onRow, onFile, fileAt, fileFound}
+use Rattle.files.specs.Files.{onRow, onFile}
+use Rattle.files.specs.FileRows.{fileAt, fileFound}
 
 -- ---- the ends of the search
 

@@ -9,9 +9,9 @@ use native.Mathlib.Omega.{arith}
 use lib.Dec.{ltb}
 use lib.ListN.{set}
 use borrow.Author.Tests.{lt-ltb, le-ltb}
-use Rattle.words.specs.Rules.{pick}
+use Rattle.words.specs.Rules.{pick, Says, fails}
 use Rattle.words.specs.Tables.{Asc}
-use Rattle.words.proofs.Rules.{Says, fails, says-ltb, pick-true, pick-false}
+use Rattle.words.proofs.Rules.{says-ltb, pick-true, pick-false}
 use Rattle.words.proofs.Order.{each-map}
 use Rattle.types.specs.Sizes.{mostSize}
 use Rattle.types.specs.Nodes.{limitWord, fileLimit}
@@ -27,14 +27,14 @@ use Rattle.volume.specs.Framed.{Fits}
 use Rattle.volume.specs.Volume.{Volume, shown, laid, withNodes, onNames}
 use Rattle.volume.specs.Sound.{node, nodeBefore, ChunkOwned, Good, Owned, ChunksOwned}
 use Rattle.volume.specs.Steps.{Step, stays, becomes, withNode}
-use Rattle.tables.specs.Tables.{limited}
+use Rattle.tables.specs.OneRow.{limited}
 use Rattle.tables.proofs.ChangedRow.{row-set, find-other}
 use Rattle.tables.proofs.ChangedNames.{Stands, look-changed, named-changed, fits-changed}
 use Rattle.store.specs.Content.{byteAt}
 use Rattle.files.specs.declared.files.RowAt.{RowAt}
 use Rattle.files.specs.declared.files.FileRow.{FileRow}
 use Rattle.files.specs.declared.files.FileRow.the-variants as row
-use Rattle.files.specs.Files.{fileFound}
+use Rattle.files.specs.FileRows.{fileFound}
 use Rattle.files.specs.Limits.{limitFile, setLimit}
 use Rattle.files.proofs.FileRows.{IsFile, file-found, file-goes-on, file-refused, OnFile, stops, goes-on, on-file}
 

@@ -2,7 +2,6 @@
 -- Assumes nothing.
 use mathlib.Core.Path.{_≡_, ap, _∙_}
 use mathlib.Core.List.{List, _++_}
-use mathlib.Core.Option.{some}
 use Prim.Native.Nat.{ℕ, _+_, _-_, _≤_, _<_}
 use native.Mathlib.Nat.{sub-zero, zero-add}
 use native.Mathlib.Omega.{arith}
@@ -12,21 +11,20 @@ use Rattle.words.specs.Bytes.{over}
 use Rattle.words.specs.Tables.{Asc}
 use Rattle.types.specs.Answers.{value}
 use Rattle.types.specs.Outcomes.{Outcome, refused, done}
-use Rattle.types.specs.declared.NodeRecord.{NodeRecord}
 use Rattle.types.specs.declared.Answer.the-variants.{Done, Refused}
 use Rattle.types.specs.declared.Error.{Error}
-use Rattle.types.specs.declared.FileType.the-variants.{Directory}
 use Rattle.volume.specs.Volume.{Volume}
 use Rattle.volume.specs.Framed.{NodeFits, Fits}
-use Rattle.volume.specs.Sound.{node, nodeBefore, NodeGood, Good}
+use Rattle.volume.specs.Sound.{nodeBefore, NodeGood, Good}
 use Rattle.tables.proofs.NodeRows.{node-each, size-most}
 use Rattle.store.specs.Content.{byteAt, bytesFrom}
 use Rattle.store.proofs.Content.{length-from, from-at}
 use Rattle.files.specs.declared.files.RowAt.{RowAt}
 use Rattle.files.specs.declared.files.FileRow.{FileRow}
 use Rattle.files.specs.declared.files.FileRow.the-variants as row
-use Rattle.files.specs.Files.{fileFound}
+use Rattle.files.specs.FileRows.{fileFound}
 use Rattle.files.specs.Read.{readCount, readFile, read}
+use Rattle.files.specs.Effects.{Shows}
 use Rattle.files.proofs.FileRows.{IsFile, file-found, file-goes-on, file-refused, OnFile, stops, goes-on, on-file}
 
 -- ---- the ends of a read
@@ -56,16 +54,6 @@ module _ (n off : ℕ) (v : Volume) (buffer : List ℕ) where
         e ∙ file-goes-on n (v .names) k h (λ e. refused e buffer) (readFile v off buffer)
 
 -- ---- what an accepted read says of the file
-
--- a read of `count` bytes of a node's file from byte `off` leaves `bytes` in the buffer
-pub record Shows (n off : ℕ) (v : Volume) (buffer : List ℕ) (count : ℕ) (bytes : List ℕ) : Type 0 where
-  pub row : NodeRecord
-  pub there : node n (v .names) ≡ some row
-  pub file : row .kind ≡ Directory → ⊥
-  pub counted : count ≡ readCount (row .size) off (length buffer)
-  -- the file's bytes, and behind them the buffer as it was
-  pub gives : (i : ℕ) → i < count → getD bytes i 0 ≡ byteAt (v .store) n (off + i)
-  pub keeps : (i : ℕ) → count ≤ i → getD bytes i 0 ≡ getD buffer i 0
 
 module _ (n off : ℕ) (v : Volume) (buffer : List ℕ) where
   over-gives : (count i : ℕ) → i < count → getD (over buffer 0 (bytesFrom (v .store) n off count)) i 0 ≡ byteAt (v .store) n (off + i)

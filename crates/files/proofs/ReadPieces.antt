@@ -22,14 +22,15 @@ use Rattle.volume.specs.declared.Layout.{Layout}
 use Rattle.volume.specs.declared.ChunkRow.{ChunkRow}
 use Rattle.volume.specs.Volume.{Store, shown, atBytes}
 use Rattle.volume.specs.Search.{chunkUnder}
-use Rattle.tables.specs.Tables.{Ready, chunkAt, isChunk, chunk}
+use Rattle.tables.specs.Tables.{Ready, chunkAt}
+use Rattle.tables.specs.OneRow.{isChunk, chunk}
 use Rattle.tables.proofs.ReadyVolume.{rooms, area-long}
 use Rattle.store.specs.Content.{bytesFrom}
 use Rattle.store.proofs.Content.{length-from, from-none, from-add, from-row, from-hole}
 use Rattle.tables.proofs.ChunkCursor.{row-yes, row-no}
 use Rattle.store.specs.Workable.{Workable}
 use Rattle.tables.proofs.StoredRows.{row-inside}
-use Rattle.files.specs.Files.{IsSpan}
+use Rattle.files.specs.FileRows.{IsSpan}
 
 -- a part of the chunk area is a part of the volume
 pub area-part : (l : List ℕ) (y : Layout) → Ready l y → (at n : ℕ) → part l (y .area + at) n ≡ part (shown l .store .bytes) at n

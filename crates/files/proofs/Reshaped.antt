@@ -5,7 +5,8 @@ use mathlib.Core.Bool.{Bool, true, false}
 use mathlib.Core.Option.{Option, none, some}
 use Prim.Native.Nat.{ℕ, _*_, _≤_, _<_}
 use lib.Dec.{eqb}
-use Rattle.words.proofs.Rules.{Says, holds, fails, says-eqb}
+use Rattle.words.specs.Rules.{Says, holds, fails}
+use Rattle.words.proofs.Rules.{says-eqb}
 use Rattle.types.specs.Nodes.{fileLimit}
 use Rattle.types.specs.declared.FileType.the-variants.{Directory}
 use Rattle.types.specs.declared.NodeRecord.{NodeRecord}
@@ -15,7 +16,7 @@ use Rattle.volume.specs.Framed.{StoreFits, Fits}
 use Rattle.volume.specs.Sound.{Good, node}
 use Rattle.volume.specs.Steps.{withNode}
 use Rattle.volume.proofs.Rounding.{up-lt}
-use Rattle.tables.specs.Tables.{sized, chunk}
+use Rattle.tables.specs.OneRow.{sized, chunk}
 use Rattle.store.specs.Content.{byteAt}
 use Rattle.store.specs.Workable.{Workable}
 use Rattle.tables.proofs.ChangedNames.{Stands, named-changed, fits-changed, node-here, node-other}

@@ -7,8 +7,8 @@ use mathlib.Core.Option.{Option, none, some}
 use Prim.Native.Nat.{ℕ, _*_, _≤_, _<_}
 use native.Mathlib.Omega.{arith}
 use lib.Dec.{eqb, ltb}
-use Rattle.words.specs.Rules.{pick}
-use Rattle.words.proofs.Rules.{Says, holds, fails, says-ltb}
+use Rattle.words.specs.Rules.{pick, Says, holds, fails}
+use Rattle.words.proofs.Rules.{says-ltb}
 use Rattle.types.specs.Nodes.{fileLimit}
 use Rattle.types.specs.Answers.{value}
 use Rattle.types.specs.declared.Answer.the-variants.{Done, Refused}
@@ -23,11 +23,12 @@ use Rattle.volume.specs.Sound.{Good, node}
 use Rattle.volume.specs.Steps.{Step, stays, becomes}
 use Rattle.volume.specs.Framed.{NodeFits, Fits}
 use Rattle.volume.proofs.Rounding.{lt-up}
-use Rattle.tables.specs.Tables.{sized, chunk}
+use Rattle.tables.specs.OneRow.{sized, chunk}
 use Rattle.store.specs.Content.{byteAt}
 use Rattle.store.specs.Cut.{cramped, shrunk}
 use Rattle.files.proofs.FileRows.{OnFile, stops, goes-on, on-file}
 use Rattle.files.specs.Resize.{resizeFile, resize}
+use Rattle.files.specs.Effects.{Resized}
 use Rattle.store.specs.Workable.{Workable}
 use Rattle.files.specs.Posix.{fileOf, ExtensionShowsZero}
 use Rattle.store.proofs.Workable.{stored-workable}
@@ -64,23 +65,6 @@ resize-cases P n z v refusal grown cut = go (resize n z v) (on-file n (v .names)
         from-file r e i k (ltb (fileLimit (r .limit)) z) (says-ltb (fileLimit (r .limit)) z) (ltb z (r .size)) (says-ltb z (r .size)) (cramped (r .node) z (v .store)) refl
 
 -- ---- an accepted resize
-
--- w is v with the file of node n of z bytes
-pub record Resized (n z : ℕ) (v w : Volume) : Type 0 where
-  -- the file's row before, and after
-  pub row : NodeRecord
-  pub there : node n (v .names) ≡ some row
-  pub file : row .kind ≡ Directory → ⊥
-  pub within : z ≤ fileLimit (row .limit)
-  pub changed : node n (w .names) ≡ some (sized z row)
-  -- all other nodes, and the entries, are as they were
-  pub others : (m : ℕ) → (m ≡ n → ⊥) → node m (w .names) ≡ node m (v .names)
-  pub entries : w .names .entries ≡ v .names .entries
-  pub nextNode : w .names .nextNode ≡ v .names .nextNode
-  -- its bytes below z as they were, zeros from there on, and other files' bytes as they were
-  pub below : (j : ℕ) → j < z → byteAt (w .store) n j ≡ byteAt (v .store) n j
-  pub above : (j : ℕ) → z ≤ j → byteAt (w .store) n j ≡ 0
-  pub outside : (m j : ℕ) → (m ≡ n → ⊥) → byteAt (w .store) m j ≡ byteAt (v .store) m j
 
 module _ (n z : ℕ) (v : Volume) (f : Fits v) (g : Good v) (r : NodeRecord) (a : Accepts n z v r) where
   abbrev s : Store

@@ -20,7 +20,8 @@ use Rattle.volume.specs.Search.{chunkUnder}
 use Rattle.volume.specs.Volume.{Volume, shown, laid, withAllocator, withChunks, withBytes, onStore}
 use Rattle.volume.specs.Framed.{StoreFits, Fits}
 use Rattle.volume.proofs.Framed.{fits-chunks, fits-bytes}
-use Rattle.tables.specs.Tables.{Ready, chunk}
+use Rattle.tables.specs.Tables.{Ready}
+use Rattle.tables.specs.OneRow.{chunk}
 use Rattle.tables.proofs.ReadyVolume.{shown-as, ready-as}
 use Rattle.store.specs.Room.{room}
 use Rattle.store.specs.Taken.{taken}

@@ -5,12 +5,12 @@ use mathlib.Core.Path.{_≡_, refl, sym, ap, _∙_}
 use mathlib.Core.Bool.{Bool, true, false}
 use mathlib.Core.List.{List}
 use mathlib.Core.Option.{Option, none, some}
-use Prim.Native.Nat.{ℕ, _+_, _-_, _*_, _^_, _≤_, _<_, max}
+use Prim.Native.Nat.{ℕ, _+_, _*_, _^_, _≤_, _<_, max}
 use native.Mathlib.Omega.{arith}
 use lib.Dec.{eqb, ltb}
-use lib.ListN.{length, getD}
-use Rattle.words.specs.Rules.{pick}
-use Rattle.words.proofs.Rules.{Says, holds, fails, says-eqb, says-ltb}
+use lib.ListN.{length}
+use Rattle.words.specs.Rules.{pick, Says, holds, fails}
+use Rattle.words.proofs.Rules.{says-eqb, says-ltb}
 use Rattle.types.specs.Nodes.{fileLimit}
 use Rattle.types.specs.Answers.{value}
 use Rattle.types.specs.declared.Answer.the-variants.{Done, Refused}
@@ -25,12 +25,13 @@ use Rattle.volume.specs.Steps.{Step, stays, becomes}
 use Rattle.volume.specs.Framed.{NodeFits, Fits}
 use Rattle.volume.specs.Sound.{NodeGood, Good, node}
 use Rattle.volume.proofs.Rounding.{lt-up}
-use Rattle.tables.specs.Tables.{sized, chunk}
+use Rattle.tables.specs.OneRow.{sized, chunk}
 use Rattle.store.specs.Content.{byteAt}
 use Rattle.store.specs.Room.{room, holes}
 use Rattle.store.specs.Written.{written}
 use Rattle.files.proofs.FileRows.{OnFile, stops, goes-on, on-file}
 use Rattle.files.specs.Write.{writeFile, write}
+use Rattle.files.specs.Effects.{Wrote, writtenSize}
 use Rattle.store.specs.Workable.{Workable}
 use Rattle.store.proofs.Workable.{stored-workable}
 use Rattle.tables.proofs.NodeRows.{node-is, node-each}
@@ -50,12 +51,9 @@ pub record Accepts (n offset : ℕ) (bs : List ℕ) (v : Volume) (r : NodeRecord
   pub within : offset + length bs ≤ fileLimit (r .limit)
   pub enough : holes n offset (length bs) (v .store) ≤ room (v .store)
 
-abbrev pub endOf : ℕ → List ℕ → NodeRecord → ℕ
-endOf offset bs r = max (r .size) (offset + length bs)
-
 -- what an accepted write leaves
 abbrev pub wrote : ℕ → ℕ → List ℕ → NodeRecord → Volume → Volume
-wrote n offset bs r v = reshaped n (endOf offset bs r) (written n offset bs (v .store)) v
+wrote n offset bs r v = reshaped n (writtenSize offset bs r) (written n offset bs (v .store)) v
 
 -- what holds of each case holds of a write
 pub write-cases : (P : Step → Type 0) (n offset : ℕ) (bs : List ℕ) (v : Volume) → ((e : Error) → P (stays e v)) → (length bs ≡ 0 → P (becomes 0 v))
@@ -81,22 +79,6 @@ write-cases P n offset bs v refusal empty accepted = go (write n offset bs v) (o
 
 -- ---- an accepted write
 
--- w is v with bytes written into the file of node n
-pub record Wrote (n offset : ℕ) (bs : List ℕ) (v w : Volume) : Type 0 where
-  -- the file's row before, and after
-  pub row : NodeRecord
-  pub there : node n (v .names) ≡ some row
-  pub file : row .kind ≡ Directory → ⊥
-  pub within : offset + length bs ≤ fileLimit (row .limit)
-  pub changed : node n (w .names) ≡ some (sized (endOf offset bs row) row)
-  -- all other nodes, and the entries, are as they were
-  pub others : (m : ℕ) → (m ≡ n → ⊥) → node m (w .names) ≡ node m (v .names)
-  pub entries : w .names .entries ≡ v .names .entries
-  pub nextNode : w .names .nextNode ≡ v .names .nextNode
-  -- the bytes written, and all others as they were
-  pub inside : (j : ℕ) → offset ≤ j → j < offset + length bs → byteAt (w .store) n j ≡ getD bs (j - offset) 0
-  pub outside : (m j : ℕ) → (m ≡ n → offset ≤ j → j < offset + length bs → ⊥) → byteAt (w .store) m j ≡ byteAt (v .store) m j
-
 module _ (n offset : ℕ) (bs : List ℕ) (v : Volume) (f : Fits v) (g : Good v) (r : NodeRecord) (a : Accepts n offset bs v r) where
   abbrev s : Store
   s = v .store
@@ -108,7 +90,7 @@ module _ (n offset : ℕ) (bs : List ℕ) (v : Volume) (f : Fits v) (g : Good v)
   t = written n offset bs s
 
   abbrev z : ℕ
-  z = endOf offset bs r
+  z = writtenSize offset bs r
 
   row-good : NodeGood (v .names .entries) r
   row-good = node-each n (v .names) r (a .there) (NodeGood (v .names .entries)) (g .named .nodes)

@@ -10,12 +10,13 @@ use Rattle.words.specs.Tables.{lead}
 use Rattle.volume.specs.declared.Layout.{Layout}
 use Rattle.volume.specs.Search.{chunkUnder}
 use Rattle.volume.specs.Volume.{Volume, shown, laid, onStore}
-use Rattle.tables.specs.Tables.{Ready, chunk}
+use Rattle.tables.specs.Tables.{Ready}
+use Rattle.tables.specs.OneRow.{chunk}
 use Rattle.tables.proofs.ReadyVolume.{store-step}
 use Rattle.store.specs.Room.{room, hole, numOf, holes}
 use Rattle.store.specs.Written.{writeChunk, writeChunks, written}
 use Rattle.store.specs.Workable.{Workable}
-use Rattle.files.specs.Files.{IsSpan}
+use Rattle.files.specs.FileRows.{IsSpan}
 use Rattle.store.proofs.KeptFields.{kept-writeChunk}
 use Rattle.store.proofs.Put.{Touched}
 use Rattle.store.proofs.Written.{written-writable}

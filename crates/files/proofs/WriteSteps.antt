@@ -22,11 +22,12 @@ use Rattle.volume.specs.Framed.{NodeFits}
 use Rattle.volume.specs.Volume.{Volume, shown, laid, withNodes, onNames, onStore}
 use Rattle.volume.specs.Sound.{Good}
 use Rattle.volume.specs.Steps.{Step, stays, becomes, withNode}
-use Rattle.tables.specs.Tables.{Ready, nodeAt, sized}
+use Rattle.tables.specs.Tables.{Ready, nodeAt}
+use Rattle.tables.specs.OneRow.{sized}
 use Rattle.files.specs.declared.files.RowAt.{RowAt}
 use Rattle.files.specs.declared.files.FileRow.{FileRow}
 use Rattle.files.specs.declared.files.FileRow.the-variants as row
-use Rattle.files.specs.Files.{IsSpan, fileFound}
+use Rattle.files.specs.FileRows.{IsSpan, fileFound}
 use Rattle.tables.proofs.ReadyVolume.{store-step}
 use Rattle.store.specs.Room.{room, holes}
 use Rattle.store.specs.Workable.{Workable}

@@ -1,4 +1,4 @@
--- The scope's boundary rows P1 to P7, as statements of the calls' definitions: chunks of 16,384 bytes, room for at least two of them, a file of
+-- Believed: the scope's boundary rows P1 to P7, as statements of the calls' definitions: chunks of 16,384 bytes, room for at least two of them, a file of
 -- its own that is empty and has no limit, first in the volume.
 -- Assumes nothing.
 use mathlib.Core.Path.{_≡_}
@@ -16,7 +16,7 @@ use Rattle.volume.specs.declared.ChunkRow.{ChunkRow}
 use Rattle.volume.specs.Volume.{Volume}
 use Rattle.volume.specs.Framed.{Fits}
 use Rattle.volume.specs.Sound.{node, Good}
-use Rattle.tables.specs.Tables.{sized}
+use Rattle.tables.specs.OneRow.{sized}
 use Rattle.files.specs.Read.{read}
 use Rattle.files.specs.Write.{write}
 use Rattle.files.specs.Resize.{resize}
@@ -52,9 +52,12 @@ abbrev pub P3 : ℕ → Volume → List ℕ → Type 0
 P3 n v bs =
     read n 16383 (resize n 16386 (resize n 16383 (write n 16383 bs v .after) .after) .after) (1 ∷ 1 ∷ 1 ∷ []) ≡ done 3 (0 ∷ 0 ∷ 0 ∷ [])
 
--- empty write at u64::MAX: 0, size kept
-abbrev pub P4 : ℕ → Volume → Type 0
-P4 n v = (write n 18446744073709551615 [] v .answer ≡ Done 0) × (write n 18446744073709551615 [] v .after ≡ v)
+-- after the write of P1, empty write at u64::MAX: 0, size kept (16,386)
+abbrev pub P4 : ℕ → NodeRecord → Volume → List ℕ → Type 0
+P4 n r v bs =
+    (write n 18446744073709551615 [] (write n 16383 bs v .after) .answer ≡ Done 0)
+    × (write n 18446744073709551615 [] (write n 16383 bs v .after) .after ≡ write n 16383 bs v .after)
+    × (node n (write n 18446744073709551615 [] (write n 16383 bs v .after) .after .names) ≡ some (sized 16386 r))
 
 -- one byte at 2^40: 5
 abbrev pub P5 : ℕ → Volume → ℕ → Type 0

@@ -1,4 +1,4 @@
--- Set limit, to a number or none: 2, 3, 13 above 2^40, 5 below size.
+-- Believed: set limit, to a number or none: 2, 3, 13 above 2^40, 5 below size.
 -- Assumes nothing.
 use Prim.Native.Nat.{ℕ}
 use lib.Dec.{ltb}
@@ -10,7 +10,7 @@ use Rattle.types.specs.declared.Error.the-variants.{InvalidArgument, FileTooLar
 use Rattle.types.specs.declared.NodeRecord.{NodeRecord}
 use Rattle.volume.specs.Volume.{Volume, onNames}
 use Rattle.volume.specs.Steps.{Step, stays, becomes, withNode}
-use Rattle.tables.specs.Tables.{limited}
+use Rattle.tables.specs.OneRow.{limited}
 use Rattle.files.specs.Files.{onFile}
 
 unfoldable pub limitFile : Limit → Volume → NodeRecord → Step

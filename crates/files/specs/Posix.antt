@@ -1,4 +1,4 @@
--- Three statements of POSIX.1 about regular files, in that standard's words, of a file before and after a call.
+-- Believed: three statements of POSIX.1 about regular files, in that standard's words, of a file before and after a call.
 -- Assumes nothing.
 use mathlib.Core.Path.{_≡_}
 use Prim.Native.Nat.{ℕ, _≤_, _<_}

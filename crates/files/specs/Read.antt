@@ -1,4 +1,4 @@
--- Read: 2, 3; at or past size a count of 0, else the lesser of buffer length and size less offset; holes give zeros; the buffer past
+-- Believed: read: 2, 3; at or past size a count of 0, else the lesser of buffer length and size less offset; holes give zeros; the buffer past
 -- the count stays.
 -- Assumes nothing.
 use Prim.Native.Nat.{ℕ, _-_, min}

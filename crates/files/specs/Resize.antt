@@ -1,4 +1,4 @@
--- Resize: 2, 3, 5. Growing changes size only. Shrinking frees, in ascending index order, all chunks from new size / S rounded up; then, if
+-- Believed: resize: 2, 3, 5. Growing changes size only. Shrinking frees, in ascending index order, all chunks from new size / S rounded up; then, if
 -- the new size is no multiple of S, it zeroes the last chunk from there, taking a chunk if that index is a hole. 6 if it needs one, frees
 -- none, and write's rule finds no room for one.
 -- Assumes nothing.
@@ -10,7 +10,7 @@ use Rattle.types.specs.declared.Error.the-variants.{FileTooLarge, NoChunkRoom}
 use Rattle.types.specs.declared.NodeRecord.{NodeRecord}
 use Rattle.volume.specs.Volume.{Volume, onNames}
 use Rattle.volume.specs.Steps.{Step, stays, becomes, withNode}
-use Rattle.tables.specs.Tables.{sized}
+use Rattle.tables.specs.OneRow.{sized}
 use Rattle.store.specs.Cut.{cramped, shrunk}
 use Rattle.files.specs.Files.{onFile}
 

@@ -1,4 +1,4 @@
--- Write: 2, 3; an empty write gives 0 at any offset; 5 if offset plus length, as exact numbers, exceeds the file limit; 6 if the touched
+-- Believed: write: 2, 3; an empty write gives 0 at any offset; 5 if offset plus length, as exact numbers, exceeds the file limit; 6 if the touched
 -- indexes without a row outnumber the room. New chunks are taken in index order and zeroed around the data. Size becomes the greater of
 -- size and end.
 -- Assumes nothing.
@@ -12,7 +12,7 @@ use Rattle.types.specs.declared.Error.the-variants.{FileTooLarge, NoChunkRoom}
 use Rattle.types.specs.declared.NodeRecord.{NodeRecord}
 use Rattle.volume.specs.Volume.{Volume}
 use Rattle.volume.specs.Steps.{Step, stays, becomes, withNode}
-use Rattle.tables.specs.Tables.{sized}
+use Rattle.tables.specs.OneRow.{sized}
 use Rattle.store.specs.Room.{room, holes}
 use Rattle.store.specs.Written.{written}
 use Rattle.files.specs.Files.{onFile}

@@ -10,11 +10,12 @@ ghost use Rattle.words.specs.Tables.{lead};
 ghost use Rattle.allocator.specs.Allocator.{allocate};
 ghost use Rattle.volume.specs.Volume.{shown, laid, withBytes, onStore};
 ghost use Rattle.volume.specs.Search.{chunkUnder};
-ghost use Rattle.tables.specs.Tables.{Ready, chunk};
+ghost use Rattle.tables.specs.Tables.{Ready};
+ghost use Rattle.tables.specs.OneRow.{chunk};
 ghost use Rattle.store.specs.Room.{room};
 ghost use Rattle.store.specs.Taken.{taken};
 ghost use Rattle.store.specs.Workable.{Workable};
-ghost use Rattle.files.specs.Files.{IsSpan};
+ghost use Rattle.files.specs.FileRows.{IsSpan};
 
 // The lesser of two numbers.
 pub fn lesser(a: u64, b: u64) -> u64

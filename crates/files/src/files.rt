@@ -8,7 +8,7 @@ ghost use Rattle.volume.specs.Volume.{shown};
 ghost use Rattle.volume.specs.Sound.{nodeBefore};
 ghost use Rattle.words.specs.Tables.{Asc};
 ghost use Rattle.tables.specs.Tables.{Ready};
-ghost use Rattle.files.specs.Files.{fileFound};
+ghost use Rattle.files.specs.FileRows.{fileFound};
 
 // A row of the node table, and its place in it.
 pub struct RowAt {

@@ -15,7 +15,7 @@ ghost use Rattle.volume.specs.Sound.{Good};
 ghost use Rattle.tables.specs.Tables.{Ready};
 ghost use Rattle.store.specs.Content.{bytesFrom};
 ghost use Rattle.store.specs.Workable.{Workable};
-ghost use Rattle.files.specs.Files.{IsSpan};
+ghost use Rattle.files.specs.FileRows.{IsSpan};
 ghost use Rattle.files.specs.Read.{readCount, read as Read·read};
 
 // What is left of a chunk behind byte offset of a file, and no more than is left to do.

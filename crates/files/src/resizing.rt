@@ -23,7 +23,7 @@ ghost use Rattle.tables.specs.Tables.{Ready};
 ghost use Rattle.store.specs.Room.{room, tailHole};
 ghost use Rattle.store.specs.Cut.{goes, cramped, tailZeroed, shrunk};
 ghost use Rattle.store.specs.Workable.{Workable};
-ghost use Rattle.files.specs.Files.{IsSpan};
+ghost use Rattle.files.specs.FileRows.{IsSpan};
 ghost use Rattle.files.specs.Resize.{resize};
 
 // Zeroes a file from byte end to the end of its chunk, which is taken if its index is a hole.

@@ -8,7 +8,8 @@ ghost use Rattle.words.specs.Rules.{both};
 ghost use Rattle.words.specs.Tables.{lead};
 ghost use Rattle.volume.specs.Volume.{shown};
 ghost use Rattle.volume.specs.Search.{chunkUnder};
-ghost use Rattle.tables.specs.Tables.{Ready, chunkAt, isChunk};
+ghost use Rattle.tables.specs.Tables.{Ready, chunkAt};
+ghost use Rattle.tables.specs.OneRow.{isChunk};
 
 // Whether there is a row at a place of the chunk table, and it is that of a node's chunk.
 pub fn is_row(volume: &[u8], layout: Layout, place: usize, node: u64, index: u64) -> bool

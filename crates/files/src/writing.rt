@@ -18,15 +18,16 @@ ghost use Rattle.words.specs.Tables.{lead, Asc};
 ghost use Rattle.volume.specs.Volume.{shown, laid, onStore};
 ghost use Rattle.volume.specs.Search.{chunkUnder};
 ghost use Rattle.volume.specs.Sound.{chunkBefore, Good};
-ghost use Rattle.tables.specs.Tables.{Ready, chunk};
+ghost use Rattle.tables.specs.Tables.{Ready};
+ghost use Rattle.tables.specs.OneRow.{chunk};
 ghost use Rattle.store.specs.Room.{room, hole, missing, numOf, holes};
 ghost use Rattle.store.specs.Written.{lowOf, highOf, writeChunk, written};
 ghost use Rattle.store.specs.Workable.{Workable};
-ghost use Rattle.files.specs.Files.{IsSpan};
+ghost use Rattle.files.specs.FileRows.{IsSpan};
 ghost use Rattle.files.specs.Write.{write as Write·write};
 
 // What of the bytes falls into a chunk: from which byte of the chunk, from which of the bytes, how many.
-struct Piece {
+struct ChunkPiece {
     from: usize,
     start: usize,
     count: usize,
@@ -97,7 +98,7 @@ fn is_cramped(
 }
 
 // What of count bytes at an offset falls into the chunk of an index that they touch.
-fn piece_of(offset: u64, count: u64, index: u64, span: u64) -> Piece
+fn piece_of(offset: u64, count: u64, index: u64, span: u64) -> ChunkPiece
     requires { ⌜ (offset < index * span + span) × (index * span < offset + count) × (offset + count ≤ 1099511627776) × (0 < span) × (span ≤ 65536) ⌝ }
     ensures { λ r. ⌜ (r .from ≡ lowOf span offset index - index * span) × (r .start ≡ lowOf span offset index - offset) × (r .count ≡ highOf span offset count index - lowOf span offset index) ⌝ }
 {
@@ -105,7 +106,7 @@ fn piece_of(offset: u64, count: u64, index: u64, span: u64) -> Piece
     let end = begin + span;
     let low = greater(offset, begin);
     let high = lesser(offset + count, end);
-    Piece {
+    ChunkPiece {
         from: (low - begin) as usize,
         start: (low - offset) as usize,
         count: (high - low) as usize,

@@ -4,3 +4,5 @@ pub mod Door
 pub mod Kept
 pub mod Refusal
 pub mod NewVolume
+pub mod EntryGiven
+pub mod BoundaryStart

@@ -1,17 +1,16 @@
 -- What new volume makes, said of the call: where it is carried out the memory is sound, and with chunks of 16,384 bytes its report is the
 -- text that is written out byte for byte.
 -- Assumes nothing.
-use mathlib.Core.Path.{_≡_, refl, sym, ap, _∙_}
+use mathlib.Core.Path.{_≡_, refl, sym, ap}
 use mathlib.Core.Bool.{Bool, true, false}
 use mathlib.Core.List.{List}
 use Prim.Native.Nat.{ℕ, _≤_}
 use native.Mathlib.Omega.{arith}
 use lib.ListN.{length}
 use Rattle.words.specs.Bytes.{over}
-use Rattle.words.specs.Rules.{pick}
-use Rattle.words.proofs.Rules.{Says, holds, fails}
+use Rattle.words.specs.Rules.{pick, Says, holds, fails}
 use Rattle.types.specs.Outcomes.{Outcome, refused, done}
-use Rattle.types.specs.declared.Answer.the-variants.{Done, Refused}
+use Rattle.types.specs.declared.Answer.the-variants.{Done}
 use Rattle.types.specs.declared.Error.the-variants.{InvalidArgument}
 use Rattle.allocator.specs.Sizes.{acceptedSize}
 use Rattle.volume.specs.Volume.{shown}

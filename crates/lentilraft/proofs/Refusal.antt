@@ -9,24 +9,22 @@ use lib.Dec.{ltb}
 use lib.ListN.{length}
 use Rattle.words.specs.Bytes.{Bytes, over}
 use Rattle.words.specs.Rules.{pick}
-use Rattle.words.proofs.Rules.{Says, holds, fails}
 use Rattle.types.specs.Answers.{value}
-use Rattle.types.specs.Outcomes.{Outcome, outcome, refused, done}
+use Rattle.types.specs.Outcomes.{Outcome, refused, done}
 use Rattle.types.specs.declared.Answer.{Answer}
 use Rattle.types.specs.declared.Answer.the-variants.{Refused}
 use Rattle.types.specs.declared.Error.{Error}
-use Rattle.types.specs.declared.Error.the-variants.{UnsoundMemory, InvalidArgument, OutputTooShort}
+use Rattle.types.specs.declared.Error.the-variants.{InvalidArgument, OutputTooShort}
+use Rattle.types.specs.declared.Expected.{Expected}
 use Rattle.types.specs.declared.Limit.{Limit}
 use Rattle.allocator.specs.Sizes.{acceptedSize}
 use Rattle.allocator.proofs.Sizes.{size-cases}
-use Rattle.volume.specs.Volume.{Volume, shown, laid, withAllocator, onStore}
-use Rattle.volume.specs.Sound.{Sound}
-use Rattle.volume.specs.Steps.{Step}
+use Rattle.volume.specs.Volume.{Names, Volume, shown, laid, withAllocator, onStore}
+use Rattle.volume.specs.Steps.{Step, stays, NamesStep, nameStep}
+use Rattle.volume.specs.Sound.{Named, Good}
 use Rattle.volume.specs.Geometry.{placed}
 use Rattle.volume.specs.Fresh.{freshLaid, newVolume}
 use Rattle.volume.proofs.Laid.{framed-formed}
-use Rattle.soundness.specs.Checked.{sound}
-use Rattle.soundness.proofs.Checked.{says-sound}
 use Rattle.files.specs.Read as Read
 use Rattle.files.specs.Write as Write
 use Rattle.files.specs.Resize as Resize
@@ -35,9 +33,19 @@ use Rattle.files.proofs.FileRows.{OnFile, stops, goes-on, on-file}
 use Rattle.files.proofs.WriteKept as WriteKept
 use Rattle.files.proofs.ResizeKept as ResizeKept
 use Rattle.files.proofs.LimitSteps.{limit-leaves}
-use Rattle.lentilraft.specs.Door.{door, doorInto, chunkSizeSet, setChunkSize, setLimit, resizeFile, write, read}
-use Rattle.lentilraft.specs.Report.{text, leastOutput, report}
+use Rattle.names.specs.Entering as Entering
+use Rattle.names.specs.Unlinking as Unlinking
+use Rattle.names.specs.Removing as Removing
+use Rattle.names.proofs.Created.{create-leaves}
+use Rattle.names.proofs.Linked.{link-leaves}
+use Rattle.names.proofs.Unlinked.{unlink-refused}
+use Rattle.names.proofs.Removed.{remove-refused}
+use Rattle.lentilraft.specs.declared.naming.Wanted.{Wanted}
+use Rattle.lentilraft.specs.declared.naming.Wanted.the-variants.{Known, Unknown}
+use Rattle.lentilraft.specs.Door.{door, doorInto, chunkSizeSet, setChunkSize, setLimit, resize, write, read, create, link, unlink, wantedOf, onWanted, unlinkWanted, unlinkByte, remove}
+use Rattle.lentilraft.specs.Report.{text, leastOutput, reported, report}
 use Rattle.lentilraft.specs.Refusal.{RefusalLeaves}
+use Rattle.lentilraft.proofs.Door.{either-way}
 
 -- an answer that is a refusal tells 0
 told-nothing : (a : Answer) {e : Error} → a ≡ Refused e → value a ≡ 0
@@ -46,24 +54,15 @@ told-nothing a q = ap value q
 -- ---- the two doors
 
 -- a call that changes the volume
-pub door-refusal : (call : Volume → Step) → ((v : Volume) (e : Error) → call v .answer ≡ Refused e → call v .after ≡ v) → (l : List ℕ) → Bytes l → RefusalLeaves (door l call) l
-unfolding door pick
-door-refusal call leaves l b e = go (sound l) (says-sound l)
-  where
-    go : (t : Bool) → Says (Sound l) t → pick t (outcome (call (shown l) .answer) (laid (call (shown l) .after))) (refused UnsoundMemory l) .answer ≡ Refused e
-        → (value (pick t (outcome (call (shown l) .answer) (laid (call (shown l) .after))) (refused UnsoundMemory l) .answer) ≡ 0) × (pick t (outcome (call (shown l) .answer) (laid (call (shown l) .after))) (refused UnsoundMemory l) .bytes ≡ l)
-    go true (holds h) q = (told-nothing (call (shown l) .answer) q, ap laid (leaves (shown l) e q) ∙ framed-formed l b (h .framed) .same)
-    go false (fails h) q = (refl, refl)
+pub door-refusal : (call : Volume → Step) → ((v : Volume) → Good v → (e : Error) → call v .answer ≡ Refused e → call v .after ≡ v) → (l : List ℕ) → Bytes l → RefusalLeaves (door l call) l
+unfolding door
+door-refusal call leaves l b =
+    either-way l _ _ (λ o. RefusalLeaves o l) (λ h e q. (told-nothing (call (shown l) .answer) q, ap laid (leaves (shown l) (h .good) e q) ∙ framed-formed l b (h .framed) .same)) (λ e q. (refl, refl))
 
 -- a call that reads into a buffer
 pub into-refusal : (call : Volume → List ℕ → Outcome) → ((v : Volume) (buffer : List ℕ) → RefusalLeaves (call v buffer) buffer) → (l buffer : List ℕ) → RefusalLeaves (doorInto l buffer call) buffer
-unfolding doorInto pick
-into-refusal call leaves l buffer e = go (sound l)
-  where
-    go : (t : Bool) → pick t (call (shown l) buffer) (refused UnsoundMemory buffer) .answer ≡ Refused e
-        → (value (pick t (call (shown l) buffer) (refused UnsoundMemory buffer) .answer) ≡ 0) × (pick t (call (shown l) buffer) (refused UnsoundMemory buffer) .bytes ≡ buffer)
-    go true q = leaves (shown l) buffer e q
-    go false q = (refl, refl)
+unfolding doorInto
+into-refusal call leaves l buffer = either-way l _ _ (λ o. RefusalLeaves o buffer) (λ h. leaves (shown l) buffer) (λ e q. (refl, refl))
 
 -- ---- each call
 
@@ -83,21 +82,21 @@ pub set-chunk-size-refusal : (s : ℕ) (l : List ℕ) → Bytes l → RefusalLea
 unfolding setChunkSize
 set-chunk-size-refusal s = door-refusal (chunkSizeSet s) leaves
   where
-    leaves : (v : Volume) (e : Error) → chunkSizeSet s v .answer ≡ Refused e → chunkSizeSet s v .after ≡ v
-    leaves v e = unfold chunkSizeSet in
+    leaves : (v : Volume) → Good v → (e : Error) → chunkSizeSet s v .answer ≡ Refused e → chunkSizeSet s v .after ≡ v
+    leaves v g e = unfold chunkSizeSet in
         size-cases (λ t. t .answer ≡ Refused e → onStore (withAllocator (t .after)) v ≡ v) s (v .store .allocator) (λ d q. refl) (λ q. refl) (λ a z q. let x : _≡_ {A = ℕ} 0 1 = cc in absurd (omega arith))
 
 pub set-limit-refusal : (n : ℕ) (m : Limit) (l : List ℕ) → Bytes l → RefusalLeaves (setLimit n m l) l
 unfolding setLimit
-set-limit-refusal n m = door-refusal (Limits.setLimit n m) (limit-leaves n m)
+set-limit-refusal n m = door-refusal (Limits.setLimit n m) (λ v g. limit-leaves n m v)
 
-pub resize-file-refusal : (n size : ℕ) (l : List ℕ) → Bytes l → RefusalLeaves (resizeFile n size l) l
-unfolding resizeFile
-resize-file-refusal n size = door-refusal (Resize.resize n size) (ResizeKept.resize-refused n size)
+pub resize-file-refusal : (n size : ℕ) (l : List ℕ) → Bytes l → RefusalLeaves (resize n size l) l
+unfolding resize
+resize-file-refusal n size = door-refusal (Resize.resize n size) (λ v g. ResizeKept.resize-refused n size v)
 
 pub write-refusal : (n offset : ℕ) (bs l : List ℕ) → Bytes l → RefusalLeaves (write n offset bs l) l
 unfolding write
-write-refusal n offset bs = door-refusal (Write.write n offset bs) (WriteKept.write-refused n offset bs)
+write-refusal n offset bs = door-refusal (Write.write n offset bs) (λ v g. WriteKept.write-refused n offset bs v)
 
 pub read-refusal : (n offset : ℕ) (l buffer : List ℕ) → RefusalLeaves (read n offset l buffer) buffer
 unfolding read
@@ -110,14 +109,53 @@ read-refusal n offset = into-refusal (Read.read n offset) leaves
         go o (stops x) q = (refl, refl)
         go o (goes-on r a b c) q = unfold Read.readFile in let z : _≡_ {A = ℕ} 0 1 = cc in absurd (omega arith)
 
-pub report-refusal : (l out : List ℕ) → RefusalLeaves (report l out) out
-unfolding report pick
-report-refusal l out e = go (sound l) (ltb (length out) leastOutput)
+reported-leaves : (v : Volume) (out : List ℕ) → RefusalLeaves (reported v out) out
+unfolding reported pick
+reported-leaves v out e = go (ltb (length out) leastOutput)
   where
-    result : Bool → Bool → Outcome
-    result a b = pick a (pick b (refused OutputTooShort out) (done (length (text (shown l))) (over out 0 (text (shown l))))) (refused UnsoundMemory out)
+    result : Bool → Outcome
+    result t = pick t (refused OutputTooShort out) (done (length (text v)) (over out 0 (text v)))
 
-    go : (a b : Bool) → result a b .answer ≡ Refused e → (value (result a b .answer) ≡ 0) × (result a b .bytes ≡ out)
-    go true true q = (refl, refl)
-    go true false q = let z : _≡_ {A = ℕ} 0 1 = cc in absurd (omega arith)
-    go false b q = (refl, refl)
+    go : (t : Bool) → result t .answer ≡ Refused e → (value (result t .answer) ≡ 0) × (result t .bytes ≡ out)
+    go true q = (refl, refl)
+    go false q = let z : _≡_ {A = ℕ} 0 1 = cc in absurd (omega arith)
+
+pub report-refusal : (l out : List ℕ) → RefusalLeaves (report l out) out
+unfolding report
+report-refusal = into-refusal reported reported-leaves
+
+-- ---- the calls on names
+
+-- a step that leaves the names leaves the volume
+name-leaves : (call : Names → NamesStep) → ((a : Names) → Named a → (e : Error) → call a .answer ≡ Refused e → call a .after ≡ a) → (v : Volume) → Good v → (e : Error) → nameStep call v .answer ≡ Refused e → nameStep call v .after ≡ v
+name-leaves call leaves v g e q = rw (leaves (v .names) (g .named) e q)
+
+pub create-refusal : (p : ℕ) (name : List ℕ) (byte : ℕ) (l : List ℕ) → Bytes l → RefusalLeaves (create p name byte l) l
+unfolding create
+create-refusal p name byte = door-refusal (nameStep (Entering.create p name byte)) (name-leaves (Entering.create p name byte) (λ a g. create-leaves p name byte a))
+
+pub link-refusal : (p : ℕ) (name : List ℕ) (target : ℕ) (l : List ℕ) → Bytes l → RefusalLeaves (link p name target l) l
+unfolding link
+link-refusal p name target = door-refusal (nameStep (Entering.link p name target)) (name-leaves (Entering.link p name target) (λ a g. link-leaves p name target a))
+
+pub unlink-refusal : (start : ℕ) (path : List ℕ) (want : Expected) (opens : ℕ) (l : List ℕ) → Bytes l → RefusalLeaves (unlink start path want opens l) l
+unfolding unlink
+unlink-refusal start path want opens = door-refusal (nameStep (Unlinking.unlink start path want opens)) (name-leaves (Unlinking.unlink start path want opens) (λ a g e. unlink-refused start path want opens a e g))
+
+pub unlink-byte-refusal : (start : ℕ) (path : List ℕ) (byte opens : ℕ) (l : List ℕ) → Bytes l → RefusalLeaves (unlinkByte start path byte opens l) l
+unfolding unlinkByte
+unlink-byte-refusal start path byte opens = door-refusal (unlinkWanted start path byte opens) leaves
+  where
+    leaves : (v : Volume) → Good v → (e : Error) → unlinkWanted start path byte opens v .answer ≡ Refused e → unlinkWanted start path byte opens v .after ≡ v
+    leaves v g e = go (wantedOf byte)
+      where
+        result : Wanted → Step
+        result w = onWanted (stays InvalidArgument v) (λ want. nameStep (Unlinking.unlink start path want opens) v) w
+
+        go : (w : Wanted) → result w .answer ≡ Refused e → result w .after ≡ v
+        go Unknown q = refl
+        go (Known want) q = name-leaves (Unlinking.unlink start path want opens) (λ a h x. unlink-refused start path want opens a x h) v g e q
+
+pub remove-refusal : (n : ℕ) (l : List ℕ) → Bytes l → RefusalLeaves (remove n l) l
+unfolding remove
+remove-refusal n = door-refusal (Removing.remove n) (λ v g. remove-refused n v)

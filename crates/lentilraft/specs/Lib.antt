@@ -1,3 +1,5 @@
+pub mod SoundTest
 pub mod Door
 pub mod Report
 pub mod Refusal
+pub mod EntryGiven

@@ -1,4 +1,4 @@
--- What a refusal leaves: the bytes that were lent, and nothing told but its number.
+-- Believed: what a refusal leaves: the bytes that were lent, and nothing told but its number.
 -- Assumes nothing.
 use mathlib.Core.Path.{_≡_}
 use mathlib.Core.List.{List}

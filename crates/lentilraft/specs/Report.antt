@@ -1,4 +1,4 @@
--- Report: lines `key=value` in a fixed order, each ended by a newline, into an output of at least 512 bytes.
+-- Believed: the report: lines `key=value` in a fixed order, each ended by a newline, into an output of at least 512 bytes.
 -- Assumes nothing.
 use Prim.Native.Nat.{ℕ, zero, suc, _+_, _/_, _%_}
 use mathlib.Core.List.{List, [], _∷_, _++_}
@@ -9,9 +9,9 @@ use Rattle.words.specs.Bytes.{over}
 use Rattle.words.specs.Rules.{pick}
 use Rattle.words.specs.Tables.{joined}
 use Rattle.types.specs.Outcomes.{Outcome, refused, done}
-use Rattle.types.specs.declared.Error.the-variants.{UnsoundMemory, OutputTooShort}
-use Rattle.volume.specs.Volume.{Volume, form, shown}
-use Rattle.soundness.specs.Checked.{sound}
+use Rattle.types.specs.declared.Error.the-variants.{OutputTooShort}
+use Rattle.volume.specs.Volume.{Volume, form}
+use Rattle.lentilraft.specs.Door.{doorInto}
 
 -- ---- numbers in decimal
 
@@ -118,7 +118,8 @@ abbrev pub leastOutput : ℕ
 leastOutput = 512
 
 -- the call on a volume and an output: the output's bytes past the count stay
+unfoldable pub reported : Volume → List ℕ → Outcome
+reported v out = pick (ltb (length out) leastOutput) (refused OutputTooShort out) (done (length (text v)) (over out 0 (text v)))
+
 unfoldable pub report : List ℕ → List ℕ → Outcome
-report l out =
-    pick (sound l) (pick (ltb (length out) leastOutput) (refused OutputTooShort out) (done (length (text (shown l))) (over out 0 (text (shown l)))))
-    (refused UnsoundMemory out)
+report l out = doorInto l out reported

@@ -1,14 +1,25 @@
 // The public calls on a volume. Each opens the memory first, and refuses it with 1 if it is not sound; no call asks anything of its
 // caller.
+mod naming;
 mod text;
 
+pub use naming::NameAt;
+pub use naming::NextName;
+pub use naming::create;
+pub use naming::find_node;
+pub use naming::link;
+pub use naming::next_entry;
+pub use naming::next_name;
+pub use naming::remove;
+pub use naming::unlink;
+pub use naming::unlink_byte;
 use types::Answer;
 use types::Error;
 use types::Limit;
 use volume::Place;
 ghost use mathlib.Core.Path.{_≡_};
 ghost use Rattle.types.specs.Outcomes.{outcome};
-ghost use Rattle.lentilraft.specs.Door.{check, setChunkSize, setLimit, read, resizeFile, write};
+ghost use Rattle.lentilraft.specs.Door.{check, setChunkSize, setLimit, read, resize, write};
 ghost use Rattle.lentilraft.specs.Report.{report};
 
 // The least room for a report.
@@ -70,7 +81,7 @@ pub fn set_limit(volume: &mut [u8], node: u64, limit: Limit) -> Answer
 
 // Gives a file another size. What it gains reads zero.
 pub fn resize_file(volume: &mut [u8], node: u64, size: u64) -> Answer
-    ensures { λ r. ⌜ outcome r (now (volume .exit)) ≡ resizeFile node size (now (volume .entry)) ⌝ }
+    ensures { λ r. ⌜ outcome r (now (volume .exit)) ≡ resize node size (now (volume .entry)) ⌝ }
 {
     let Place::At(layout) = soundness::open(volume) else {
         return Answer::Refused(Error::UnsoundMemory);

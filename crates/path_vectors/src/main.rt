@@ -6,15 +6,10 @@ use paths::Cut;
 ghost use mathlib.Core.Path.{_≡_};
 ghost use Prim.Native.Nat.{_+_, _≤_, _<_};
 ghost use lib.ListN.{length};
-ghost use Rattle.paths.proofs.Bounds.{Fit};
+ghost use Rattle.paths.specs.Shown.{BoundsFit};
 
 // What the line of a path starts with.
 const PATH: u64 = 1;
-
-// What stands behind a path.
-const CUT: u64 = 0;
-
-const NOT_PERMITTED: u64 = 8;
 
 // What is read of the text so far, and whether all of it agrees.
 struct Totals {
@@ -120,25 +115,9 @@ fn check_path(text: &[u8], at: usize, path: &mut [u8]) -> Line
     requires { ⌜ at ≤ length (now text) ⌝ }
     ensures { λ r. ⌜ (at ≤ r .next) × (r .next ≤ length (now (text .entry))) × (r .refused ≤ 1) ⌝ }
 {
-    let behind = read_bytes(text, at, path);
+    let behind = vectors::bytes(text, at, path);
     let answer = vectors::number(text, behind);
     check_cut(text, answer.next, answer.value, path)
-}
-
-// As many bytes of the text as out has room for. Answers the index behind them.
-fn read_bytes(text: &[u8], at: usize, out: &mut [u8]) -> usize
-    requires { ⌜ at ≤ length (now text) ⌝ }
-    ensures { λ r. ⌜ (at ≤ r) × (r ≤ length (now (text .entry))) ⌝ }
-{
-    let mut next = at;
-    let mut i = 0;
-    while i < out.len() {
-        let byte = vectors::number(text, next);
-        words::put8(out, i, byte.value);
-        next = byte.next;
-        i += 1;
-    }
-    next
 }
 
 // Cuts the path and compares what comes of it with the answer and the parts behind it.
@@ -149,25 +128,19 @@ fn check_cut(text: &[u8], at: usize, answer: u64, path: &[u8]) -> Line
     let mut starts = [0u16; types::MOST_PARTS];
     let mut lengths = [0u16; types::MOST_PARTS];
     let cut = paths::get_path_parts(path, &mut starts, &mut lengths);
-    match cut {
-        Cut::Parts(count, _) => {
-            let parts = compare_parts(text, at, path, count, &starts, &lengths);
-            Line {
-                next: parts.next,
-                refused: 0,
-                agrees: answer == CUT && parts.agrees,
-            }
-        }
-        Cut::NotPermitted => Line {
+    let agrees = answer == paths::cut_number(cut) as u64;
+    let Cut::Parts(count, _) = cut else {
+        return Line {
             next: at,
             refused: 1,
-            agrees: answer == NOT_PERMITTED,
-        },
-        Cut::TooLong => Line {
-            next: at,
-            refused: 0,
-            agrees: false,
-        },
+            agrees,
+        };
+    };
+    let parts = compare_parts(text, at, path, count, &starts, &lengths);
+    Line {
+        next: parts.next,
+        refused: 0,
+        agrees: agrees && parts.agrees,
     }
 }
 
@@ -180,7 +153,7 @@ fn compare_parts(
     starts: &[u16; types::MOST_PARTS],
     lengths: &[u16; types::MOST_PARTS],
 ) -> Compared
-    requires { ⌜ (at ≤ length (now text)) × Fit (now path) (now starts) (now lengths) count ⌝ }
+    requires { ⌜ (at ≤ length (now text)) × BoundsFit (now path) (now starts) (now lengths) count ⌝ }
     ensures { λ r. ⌜ (at ≤ r .next) × (r .next ≤ length (now (text .entry))) ⌝ }
 {
     let expected = vectors::number(text, at);

@@ -1,6 +1,6 @@
 -- What a caller learns of a cut path: the bounds show the parts that the definition over lists gives, and lie in the path.
 -- Assumes nothing.
-use mathlib.Core.Path.{_≡_, refl, sym, ap, _∙_}
+use mathlib.Core.Path.{_≡_, refl, sym, _∙_}
 use mathlib.Core.Bool.{Bool, true, false}
 use mathlib.Core.List.{List, [], _∷_, _++_}
 use Prim.Native.Nat.{ℕ, suc, _+_, _-_, _*_, _≤_, _<_}
@@ -13,32 +13,22 @@ use lib.ListN.{length, getD, set, length-set}
 use lib.Seq.{getD-set-same, getD-set-other}
 use Rattle.words.specs.Rules.{pick, both, either}
 use Rattle.types.specs.Sizes.{mostPath, mostParts}
+use Rattle.types.specs.Outcomes.{OneOutcome}
+use Rattle.types.proofs.Outcomes.{one-outcome}
 use Rattle.paths.specs.declared.Cut.{Cut}
 use Rattle.paths.specs.declared.Cut.the-variants.{Parts, NotPermitted, TooLong}
 use Rattle.paths.specs.declared.Sort.{Sort}
 use Rattle.paths.specs.Path.{Cutting, parts, notPermitted, tooLong, slash, split, dropped, upward, walk, cutPath, endsOpen}
-use Rattle.paths.specs.Bounds.{Bounds, passed, lessOne, kept, Cutout, cutout, walkBounds, cutBounds, shownFrom, shownParts, shownCut}
+use Rattle.paths.specs.Bounds.{Bounds, passed, lessOne, kept, walkBounds, cutBounds}
+use Rattle.paths.specs.Shown.{Cutout, cutout, shownFrom, shownParts, shownCut, BoundsFit, CutShows}
 use Rattle.paths.proofs.Sorts.{Sorted, is-dropped, is-upward, is-name, sorted}
 use Rattle.paths.proofs.Names.{kept-some}
 use Rattle.paths.proofs.Scan.{split-some}
 use Rattle.paths.proofs.Walk.{bounds}
 use Rattle.paths.proofs.Shown.{length-shown, shown-less, shown-kept, Lie, pieces-lie}
 
--- the bounds of n parts lie in the path: none is empty, and a u16 holds each
-pub record Fit (path ss ls : List ℕ) (n : ℕ) : Type 0 where
-  pub few : n ≤ mostParts
-  pub short : length path ≤ mostPath
-  pub within : (i : ℕ) → i < n → getD ss i 0 + getD ls i 0 ≤ length path
-  pub some : (i : ℕ) → i < n → 0 < getD ls i 0
-
--- an outcome shows what the definition over lists gives, and its flag says whether the last piece was open and a part is left
-pub record Told (path : List ℕ) (o : Cutout) (c : Cutting) (opened : Bool) : Type 0 where
-  pub shows : shownCut path (o .cut) (o .starts) (o .lengths) ≡ c
-  pub fits : (n : ℕ) (d : Bool) → o .cut ≡ Parts n d → Fit path (o .starts) (o .lengths) n
-  pub flag : (n : ℕ) (d : Bool) → o .cut ≡ Parts n d → d ≡ both opened (ltb 0 n)
-
 -- the case of an outcome is the case of the definition
-module _ {path : List ℕ} {o : Cutout} {c : Cutting} {opened : Bool} (told : Told path o c opened) where
+module _ {path : List ℕ} {o : Cutout} {c : Cutting} {opened : Bool} (told : CutShows path o c opened) where
   pub told-parts : {n : ℕ} {d : Bool} → o .cut ≡ Parts n d → c ≡ parts (shownParts path (o .starts) (o .lengths) n)
   told-parts e = sym (rw e at (told .shows))
 
@@ -48,7 +38,7 @@ module _ {path : List ℕ} {o : Cutout} {c : Cutting} {opened : Bool} (told : To
   pub told-long : o .cut ≡ TooLong → c ≡ tooLong
   told-long e = sym (rw e at (told .shows))
 
-fit-kept : (path ss ls : List ℕ) (k a n : ℕ) → Fit path ss ls k → k < length ss → k < length ls → k < mostParts → a + n ≤ length path → 0 < n → Fit path (set ss k a) (set ls k n) (k + 1)
+fit-kept : (path ss ls : List ℕ) (k a n : ℕ) → BoundsFit path ss ls k → k < length ss → k < length ls → k < mostParts → a + n ≤ length path → 0 < n → BoundsFit path (set ss k a) (set ls k n) (k + 1)
 fit-kept path ss ls k a n f hs hl hk ha hn =
     record { few = omega arith; short = f .short; within = λ i h. within i h (decLt i k); some = λ i h. some i h (decLt i k) }
   where
@@ -71,7 +61,7 @@ fit-kept path ss ls k a n f hs hl hk ha hn =
 -- ---- bounds on the way, before the piece at index at
 
 record Held (path : List ℕ) (at : ℕ) (b : Bounds) : Type 0 where
-  fit : Fit path (b .starts) (b .lengths) (b .count)
+  fit : BoundsFit path (b .starts) (b .lengths) (b .count)
   roomS : length (b .starts) ≡ mostParts
   roomL : length (b .lengths) ≡ mostParts
   half : 2 * b .count ≤ at
@@ -106,13 +96,13 @@ shownOf path b = shownParts path (b .starts) (b .lengths) (b .count)
 
 -- the walk on bounds, beside the walk over lists
 Walked : List ℕ → ℕ → Bounds → List (List ℕ) → Type 0
-Walked path at b rest = Told path (walkBounds at b rest) (walk (shownOf path b) rest) (openedAfter (b .opened) rest)
+Walked path at b rest = CutShows path (walkBounds at b rest) (walk (shownOf path b) rest) (openedAfter (b .opened) rest)
 
 walked-end : (path : List ℕ) (at : ℕ) (b : Bounds) → Held path at b → Walked path at b []
 unfolding Walked walkBounds walk shownOf openedAfter
 walked-end path at b h = record { shows = refl; fits = fits; flag = flag }
   where
-    fits : (n : ℕ) (d : Bool) → Parts (b .count) (both (b .opened) (ltb 0 (b .count))) ≡ Parts n d → Fit path (b .starts) (b .lengths) n
+    fits : (n : ℕ) (d : Bool) → Parts (b .count) (both (b .opened) (ltb 0 (b .count))) ≡ Parts n d → BoundsFit path (b .starts) (b .lengths) n
     fits n d e =
         let k : b .count ≡ n = cc in
         rw (← k) (h .fit)
@@ -124,7 +114,7 @@ walked-end path at b h = record { shows = refl; fits = fits; flag = flag }
         sym f ∙ rw k
 
 -- a refusal shows no parts
-refused : (path : List ℕ) (r : Cut) (ss ls : List ℕ) (opened : Bool) → ((n : ℕ) (d : Bool) → r ≡ Parts n d → ⊥) → Told path (cutout r ss ls) (shownCut path r ss ls) opened
+refused : (path : List ℕ) (r : Cut) (ss ls : List ℕ) (opened : Bool) → ((n : ℕ) (d : Bool) → r ≡ Parts n d → ⊥) → CutShows path (cutout r ss ls) (shownCut path r ss ls) opened
 refused path r ss ls opened h = record { shows = refl; fits = λ n d e. absurd (h n d e); flag = λ n d e. absurd (h n d e) }
 
 not-parts : (n : ℕ) (d : Bool) → NotPermitted ≡ Parts n d → ⊥
@@ -139,7 +129,7 @@ unfolding Walked walkBounds walk shownOf openedAfter Lie pick either dropped
 walked-sorted path at b p rest h l more (is-dropped d) = rw d (more (passed b) (held-passed path at b h (length p) (l .1)))
 walked-sorted path at b p rest h l more (is-upward d u) = rw (d, u, shown-less path (b .starts) (b .lengths) (b .count), length-shown path (b .starts) (b .lengths) (b .count)) (go (eqb (b .count) 0))
   where
-    go : (t : Bool) → Told path (pick t (cutout NotPermitted (b .starts) (b .lengths)) (walkBounds (at + length p + 1) (lessOne b) rest))
+    go : (t : Bool) → CutShows path (pick t (cutout NotPermitted (b .starts) (b .lengths)) (walkBounds (at + length p + 1) (lessOne b) rest))
         (pick t notPermitted (walk (shownParts path (b .starts) (b .lengths) (b .count - 1)) rest)) (openedAfter true rest)
     go true = refused path NotPermitted (b .starts) (b .lengths) (openedAfter true rest) not-parts
     go false = more (lessOne b) (held-less path at b h (length p) (l .1))
@@ -166,18 +156,18 @@ opened-last o (p ∷ q ∷ ps) h =
 -- ---- the whole of it
 
 module _ (path ss ls : List ℕ) (roomS : length ss ≡ mostParts) (roomL : length ls ≡ mostParts) where
-  told-walk : length path ≤ mostPath → Told path (walkBounds 0 (bounds ss ls 0 true) (split path)) (walk [] (split path)) (endsOpen path)
+  told-walk : length path ≤ mostPath → CutShows path (walkBounds 0 (bounds ss ls 0 true) (split path)) (walk [] (split path)) (endsOpen path)
   unfolding Walked shownOf shownParts shownFrom endsOpen
   told-walk h =
-      let none : Fit path ss ls 0 = record { few = omega arith; short = h; within = λ i k. absurd (not-suc-le-zero k); some = λ i k. absurd (not-suc-le-zero k) } in
+      let none : BoundsFit path ss ls 0 = record { few = omega arith; short = h; within = λ i k. absurd (not-suc-le-zero k); some = λ i k. absurd (not-suc-le-zero k) } in
       rw (← opened-last true (split path) (split-some path))
       (walked path 0 (bounds ss ls 0 true) (split path) (record { fit = none; roomS = roomS; roomL = roomL; half = omega arith }) (pieces-lie path))
 
-  pub cut-told : {o : Cutout} → o ≡ cutBounds path ss ls → Told path o (cutPath path) (endsOpen path)
+  pub cut-told : {o : Cutout} → o ≡ cutBounds path ss ls → CutShows path o (cutPath path) (endsOpen path)
   unfolding cutBounds cutPath pick
   cut-told e = rw e (go (ltb mostPath (length path)) (eqb (getD path 0 0) slash) refl)
     where
-      go : (t u : Bool) → ltb mostPath (length path) ≡ t → Told path (pick t (cutout TooLong ss ls) (pick u (cutout NotPermitted ss ls) (walkBounds 0 (bounds ss ls 0 true) (split path))))
+      go : (t u : Bool) → ltb mostPath (length path) ≡ t → CutShows path (pick t (cutout TooLong ss ls) (pick u (cutout NotPermitted ss ls) (walkBounds 0 (bounds ss ls 0 true) (split path))))
           (pick t tooLong (pick u notPermitted (walk [] (split path)))) (endsOpen path)
       go true u h = refused path TooLong ss ls (endsOpen path) long-not-parts
       go false true h = refused path NotPermitted ss ls (endsOpen path) not-parts
@@ -188,14 +178,12 @@ module _ (path ss ls : List ℕ) (roomS : length ss ≡ mostParts) (roomL : leng
   cut-shows = cut-told refl .shows
 
   module _ (n : ℕ) (d : Bool) (e : cutBounds path ss ls .cut ≡ Parts n d) where
-    pub cut-fits : Fit path (cutBounds path ss ls .starts) (cutBounds path ss ls .lengths) n
+    pub cut-fits : BoundsFit path (cutBounds path ss ls .starts) (cutBounds path ss ls .lengths) n
     cut-fits = cut-told refl .fits n d e
 
     pub cut-flag : d ≡ both (endsOpen path) (ltb 0 n)
     cut-flag = cut-told refl .flag n d e
 
 -- the contract's equation leaves one outcome
-pub one-outcome : (path ss ls : List ℕ) {r r' : Cut} {ss' ss″ ls' ls″ : List ℕ} → cutout r ss' ls' ≡ cutBounds path ss ls → cutout r' ss″ ls″ ≡ cutBounds path ss ls → (r ≡ r') × (ss' ≡ ss″) × (ls' ≡ ls″)
-one-outcome path ss ls e f =
-    let g = e ∙ sym f in
-    (ap (λ o. o .cut) g, ap (λ o. o .starts) g, ap (λ o. o .lengths) g)
+pub one-cut : (path ss ls : List ℕ) → OneOutcome (cutBounds path ss ls)
+one-cut path ss ls = one-outcome (cutBounds path ss ls)

@@ -5,4 +5,4 @@ pub mod Walk
 pub mod Shown
 pub mod Bounds
 pub mod Parts
-pub mod Examples
+pub mod BoundaryRows

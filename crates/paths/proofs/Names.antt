@@ -12,23 +12,16 @@ use borrow.Author.Tests.{eq-eqb}
 use lib.ListN.{length, getD}
 use lib.Seq.{take-length}
 use Rattle.words.specs.Bytes.{part}
-use Rattle.words.specs.Rules.{both, same}
+use Rattle.words.specs.Rules.{both, same, Says, holds, fails}
 use Rattle.words.proofs.Joined.{both-false, either-false, either-true}
-use Rattle.words.proofs.Rules.{Says, holds, fails, says-true, true-says, false-says, says-map, says-both, says-leb, says-not}
+use Rattle.words.proofs.Rules.{says-true, true-says, false-says, says-map, says-both, says-leb, says-not}
 use Rattle.words.proofs.Blocks.{says-same}
 use Rattle.types.specs.Sizes.{mostName}
 use Rattle.paths.specs.declared.Sort.{Sort}
 use Rattle.paths.specs.declared.Sort.the-variants.{Dropped, Upward, Name}
-use Rattle.paths.specs.Path.{slash, dot, dropped, upward, noSlash, nameAllowed}
+use Rattle.paths.specs.Path.{slash, dot, dropped, upward, noSlash, IsPart, nameAllowed}
 use Rattle.paths.specs.Pieces.{Pieced, sortOf}
 use Rattle.paths.proofs.Sorts.{Sorted, is-dropped, is-upward, is-name, sorted}
-
--- a name, but for its length
-pub record Part (p : List ℕ) : Type 0 where
-  pub some : 0 < length p
-  pub whole : noSlash p ≡ true
-  pub noDot : p ≡ dot ∷ [] → ⊥
-  pub noDots : p ≡ dot ∷ dot ∷ [] → ⊥
 
 says-whole : (p : List ℕ) → Says (noSlash p ≡ true) (noSlash p)
 says-whole p = go (noSlash p) refl
@@ -38,7 +31,7 @@ says-whole p = go (noSlash p) refl
     go false e = fails (λ f. false≢true (sym e ∙ f))
 
 -- a part is an allowed name where it is not too long
-pub says-name : (p : List ℕ) → Says (Part p × (length p ≤ mostName)) (nameAllowed p)
+pub says-name : (p : List ℕ) → Says (IsPart p × (length p ≤ mostName)) (nameAllowed p)
 unfolding nameAllowed
 says-name p = says-map
     (λ h. (record { some = h .0; whole = h .1 .1 .0; noDot = h .1 .1 .1 .0; noDots = h .1 .1 .1 .1 }, h .1 .0))
@@ -57,7 +50,7 @@ pub kept-some : (p : List ℕ) → dropped p ≡ false → 0 < length p
 unfolding dropped
 kept-some p d = some-bytes p (either-false _ _ d .0)
 
-pub named : (p : List ℕ) → noSlash p ≡ true → dropped p ≡ false → upward p ≡ false → Part p
+pub named : (p : List ℕ) → noSlash p ≡ true → dropped p ≡ false → upward p ≡ false → IsPart p
 unfolding dropped upward
 named p w d u = record {
   some = kept-some p d;
@@ -66,11 +59,11 @@ named p w d u = record {
   noDots = λ e. false≢true (sym u ∙ true-says (says-same p (dot ∷ dot ∷ [])) e);
 }
 
-no-part-dropped : (p : List ℕ) → dropped p ≡ true → Part p → ⊥
+no-part-dropped : (p : List ℕ) → dropped p ≡ true → IsPart p → ⊥
 unfolding dropped
 no-part-dropped p d h = ⊎-elim (λ e. omega (arith, h .some, ap length (says-true (says-same p []) e))) (λ e. h .noDot (says-true (says-same p (dot ∷ [])) e)) (either-true _ _ d)
 
-no-part-upward : (p : List ℕ) → upward p ≡ true → Part p → ⊥
+no-part-upward : (p : List ℕ) → upward p ≡ true → IsPart p → ⊥
 unfolding upward
 no-part-upward p u h = h .noDots (says-true (says-same p (dot ∷ dot ∷ [])) u)
 

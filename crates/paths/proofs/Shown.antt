@@ -14,7 +14,7 @@ use Rattle.words.specs.Bytes.{part}
 use Rattle.words.specs.Rules.{pick}
 use Rattle.words.proofs.Parts.{part-zero, part-cons}
 use Rattle.paths.specs.Path.{slash, cons, split}
-use Rattle.paths.specs.Bounds.{shownFrom, shownParts}
+use Rattle.paths.specs.Shown.{shownFrom, shownParts}
 use Rattle.paths.proofs.Scan.{split-some}
 
 module _ (path ss ls : List ℕ) where

@@ -16,27 +16,28 @@ use Rattle.types.specs.Sizes.{mostPath}
 use Rattle.paths.specs.declared.Cut.the-variants.{Parts, NotPermitted, TooLong}
 use Rattle.paths.specs.declared.Sort.{Sort}
 use Rattle.paths.specs.declared.Sort.the-variants.{Dropped, Upward, Name}
-use Rattle.paths.specs.declared.Step.{Step}
-use Rattle.paths.specs.declared.Step.the-variants.{Next, Barred}
+use Rattle.paths.specs.declared.Turn.{Turn}
+use Rattle.paths.specs.declared.Turn.the-variants.{Next, Barred}
 use Rattle.paths.specs.Path.{slash}
-use Rattle.paths.specs.Bounds.{Bounds, Cutout, cutout, walkBounds, cutBounds}
-use Rattle.paths.specs.Pieces.{Pieced, sortOf, Placed, placed, placedAs}
+use Rattle.paths.specs.Bounds.{Bounds, walkBounds, cutBounds}
+use Rattle.paths.specs.Shown.{Cutout, cutout}
+use Rattle.paths.specs.Pieces.{Pieced, sortOf, PiecePlaced, piecePlaced, placedAs}
 use Rattle.paths.proofs.Sorts.{Sorted, is-dropped, is-upward, is-name, sorted}
 use Rattle.paths.proofs.Scan.{left, left-all, left-none, left-more}
 
 -- ---- what a piece of each sort makes of the bounds
 
 module _ {s : Sort} (at n k : ℕ) (ss ls : List ℕ) where
-  pub as-dropped : Dropped ≡ s → placed (Next k true) ss ls ≡ placedAs s at n k ss ls
+  pub as-dropped : Dropped ≡ s → piecePlaced (Next k true) ss ls ≡ placedAs s at n k ss ls
   as-dropped e = rw (← e)
 
-  pub as-barred : Upward ≡ s → k ≡ 0 → placed Barred ss ls ≡ placedAs s at n k ss ls
+  pub as-barred : Upward ≡ s → k ≡ 0 → piecePlaced Barred ss ls ≡ placedAs s at n k ss ls
   as-barred e z = rw (← e) (pick-true _ _ _ _ (eq-eqb k 0 z) refl)
 
-  pub as-upward : Upward ≡ s → (k ≡ 0 → ⊥) → placed (Next (k - 1) true) ss ls ≡ placedAs s at n k ss ls
+  pub as-upward : Upward ≡ s → (k ≡ 0 → ⊥) → piecePlaced (Next (k - 1) true) ss ls ≡ placedAs s at n k ss ls
   as-upward e z = rw (← e) (pick-false _ _ _ _ (ne-eqb k 0 z) refl)
 
-  pub as-name : Name ≡ s → placed (Next (k + 1) false) (set ss k at) (set ls k n) ≡ placedAs s at n k ss ls
+  pub as-name : Name ≡ s → piecePlaced (Next (k + 1) false) (set ss k at) (set ls k n) ≡ placedAs s at n k ss ls
   as-name e = rw (← e)
 
 -- ---- the walk from a step on
@@ -44,33 +45,33 @@ module _ {s : Sort} (at n k : ℕ) (ss ls : List ℕ) where
 abbrev pub bounds : List ℕ → List ℕ → ℕ → Bool → Bounds
 bounds ss ls k o = record { starts = ss; lengths = ls; count = k; opened = o }
 
-resumed : Step → List ℕ → List ℕ → ℕ → List (List ℕ) → Cutout
+resumed : Turn → List ℕ → List ℕ → ℕ → List (List ℕ) → Cutout
 resumed (Next k o) ss ls at rest = walkBounds at (bounds ss ls k o) rest
 resumed Barred ss ls at rest = cutout NotPermitted ss ls
 
-resumed-pick : (t : Bool) (x y : Placed) (at : ℕ) (rest : List (List ℕ)) → resumed (pick t x y .step) (pick t x y .starts) (pick t x y .lengths) at rest ≡ pick t (resumed (x .step) (x .starts) (x .lengths) at rest) (resumed (y .step) (y .starts) (y .lengths) at rest)
+resumed-pick : (t : Bool) (x y : PiecePlaced) (at : ℕ) (rest : List (List ℕ)) → resumed (pick t x y .turn) (pick t x y .starts) (pick t x y .lengths) at rest ≡ pick t (resumed (x .turn) (x .starts) (x .lengths) at rest) (resumed (y .turn) (y .starts) (y .lengths) at rest)
 unfolding pick
 resumed-pick true x y at rest = refl
 resumed-pick false x y at rest = refl
 
-walk-sorted : (at : ℕ) (b : Bounds) (p : List ℕ) (rest : List (List ℕ)) (s : Sort) {q : Placed} → Sorted p s → q ≡ placedAs s at (length p) (b .count) (b .starts) (b .lengths)
-    → walkBounds at b (p ∷ rest) ≡ resumed (q .step) (q .starts) (q .lengths) (at + length p + 1) rest
+walk-sorted : (at : ℕ) (b : Bounds) (p : List ℕ) (rest : List (List ℕ)) (s : Sort) {q : PiecePlaced} → Sorted p s → q ≡ placedAs s at (length p) (b .count) (b .starts) (b .lengths)
+    → walkBounds at b (p ∷ rest) ≡ resumed (q .turn) (q .starts) (q .lengths) (at + length p + 1) rest
 unfolding walkBounds resumed
 walk-sorted at b p rest Dropped (is-dropped h) e = rw e (sym (pick-true _ _ _ _ h refl))
 walk-sorted at b p rest Upward (is-upward h k) e = rw e (sym (pick-false _ _ _ _ h (pick-true _ _ _ _ k (resumed-pick _ _ _ _ _))))
 walk-sorted at b p rest Name (is-name h k) e = rw e (sym (pick-false _ _ _ _ h (pick-false _ _ _ _ k refl)))
 
--- the pieces of a path from index at on, the first of which was placed
-module _ (path : List ℕ) (at next dots k : ℕ) (o : Bool) (ss ls : List ℕ) {st : Step} {ss' ls' : List ℕ} {w : Cutout}
+-- the pieces of a path from index at on, the first of which was piecePlaced
+module _ (path : List ℕ) (at next dots k : ℕ) (o : Bool) (ss ls : List ℕ) {st : Turn} {ss' ls' : List ℕ} {w : Cutout}
     (i : w ≡ walkBounds at (bounds ss ls k o) (left path at)) (h : at < next) (p : Pieced path at (next - at - 1) dots)
-    (e : placed st ss' ls' ≡ placedAs (sortOf (next - at - 1) dots) at (next - at - 1) k ss ls) where
+    (e : piecePlaced st ss' ls' ≡ placedAs (sortOf (next - at - 1) dots) at (next - at - 1) k ss ls) where
   walk-more : w ≡ resumed st ss' ls' next (left path next)
   walk-more =
       let n = next - at - 1 in
       let q : length (part path at n) ≡ n = length-part path at n (p .within) in
       let r : at + n + 1 ≡ next = omega arith in
       let s : Sorted (part path at n) (sortOf n dots) = rw (q, ← p .dotted) at (sorted (part path at n)) in
-      let f : placed st ss' ls' ≡ placedAs (sortOf n dots) at (length (part path at n)) k ss ls = rw q e in
+      let f : piecePlaced st ss' ls' ≡ placedAs (sortOf n dots) at (length (part path at n)) k ss ls = rw q e in
       i ∙ rw (left-more path at n dots p, r) (rw (q, r) at (walk-sorted at (bounds ss ls k o) (part path at n) (left path (at + n + 1)) (sortOf n dots) s f))
 
   pub walk-turn : {k' : ℕ} {o' : Bool} → st ≡ Next k' o' → w ≡ walkBounds next (bounds ss' ls' k' o') (left path next)

@@ -1,6 +1,7 @@
--- The scope's "Paths", over lists: a path is split at its slashes, and its pieces are folded into parts. Names that are allowed.
+-- Believed: the scope's "Paths", over lists: a path is split at its slashes, and its pieces are folded into parts. Names that are allowed.
 -- Assumes nothing.
-use Prim.Native.Nat.{ℕ, _-_}
+use mathlib.Core.Path.{_≡_}
+use Prim.Native.Nat.{ℕ, _-_, _<_}
 use mathlib.Core.Bool.{Bool, true, false, not}
 use mathlib.Core.List.{List, [], _∷_, _++_}
 use lib.ListN.{length, take, getD}
@@ -55,6 +56,13 @@ endsOpen path = either (dropped (getD (split path) (length (split path) - 1) [])
 unfoldable pub noSlash : List ℕ → Bool
 noSlash [] = true
 noSlash (b ∷ bs) = both (not (eqb b slash)) (noSlash bs)
+
+-- a name, but for its length
+pub record IsPart (p : List ℕ) : Type 0 where
+  pub some : 0 < length p
+  pub whole : noSlash p ≡ true
+  pub noDot : p ≡ dot ∷ [] → ⊥
+  pub noDots : p ≡ dot ∷ dot ∷ [] → ⊥
 
 -- 1 to 255 bytes, no slash, neither `.` nor `..`
 unfoldable pub nameAllowed : List ℕ → Bool

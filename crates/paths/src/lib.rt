@@ -1,4 +1,6 @@
 // Cutting a path into parts, and which names are allowed. Bytes are compared as they stand.
+use types::Answer;
+use types::Error;
 ghost use mathlib.Core.Path.{_≡_};
 ghost use Prim.Native.Nat.{_+_, _-_, _*_, _<_, _≤_};
 ghost use lib.ListN.{length, getD};
@@ -6,8 +8,9 @@ ghost use lib.Dec.{eqb};
 ghost use Rattle.words.specs.Rules.{bit};
 ghost use Rattle.types.specs.Sizes.{mostPath};
 ghost use Rattle.paths.specs.Path.{slash, dot, nameAllowed};
-ghost use Rattle.paths.specs.Bounds.{cutout, cutBounds};
-ghost use Rattle.paths.specs.Pieces.{Pieced, sortOf, placed, placedAs, partsAfter};
+ghost use Rattle.paths.specs.Bounds.{cutBounds};
+ghost use Rattle.paths.specs.Shown.{cutout, cutAnswer, cutNumber};
+ghost use Rattle.paths.specs.Pieces.{Pieced, sortOf, piecePlaced, placedAs, partsAfter};
 
 // What cutting a path gives: the number of its parts, and whether its last piece was empty, `.` or `..` with a part left
 // (the path then means a directory); or the refusal.
@@ -31,7 +34,7 @@ enum Sort {
 }
 
 // The parts so far and whether the last piece was no name; or `..` with no part before it.
-enum Step {
+enum Turn {
     Next(usize, bool),
     Barred,
 }
@@ -110,23 +113,23 @@ fn place_piece(
     count: usize,
     starts: &mut [u16; types::MOST_PARTS],
     lengths: &mut [u16; types::MOST_PARTS],
-) -> Step
+) -> Turn
     requires { ⌜ (2 * count ≤ at) × (at + length ≤ mostPath) × (dots ≤ length) ⌝ }
-    ensures { λ r. ⌜ (placed r (now (starts .exit)) (now (lengths .exit)) ≡ placedAs (sortOf length dots) at length count (now (starts .entry)) (now (lengths .entry))) × (2 * partsAfter r ≤ at + length + 1) ⌝ }
+    ensures { λ r. ⌜ (piecePlaced r (now (starts .exit)) (now (lengths .exit)) ≡ placedAs (sortOf length dots) at length count (now (starts .entry)) (now (lengths .entry))) × (2 * partsAfter r ≤ at + length + 1) ⌝ }
 {
     let sort = sort_of(length, dots);
     match sort {
-        Sort::Dropped => Step::Next(count, true),
+        Sort::Dropped => Turn::Next(count, true),
         Sort::Upward => {
             if count == 0 {
-                return Step::Barred;
+                return Turn::Barred;
             }
-            Step::Next(count - 1, true)
+            Turn::Next(count - 1, true)
         }
         Sort::Name => {
             starts[count] = at as u16;
             lengths[count] = length as u16;
-            Step::Next(count + 1, false)
+            Turn::Next(count + 1, false)
         }
     }
 }
@@ -151,8 +154,8 @@ pub fn get_path_parts(
     while at <= path.len() {
         let piece = read_piece(path, at);
         let next = piece.next;
-        let step = place_piece(at, next - at - 1, piece.dots, count, starts, lengths);
-        let Step::Next(parts, open) = step else {
+        let turn = place_piece(at, next - at - 1, piece.dots, count, starts, lengths);
+        let Turn::Next(parts, open) = turn else {
             return Cut::NotPermitted;
         };
         count = parts;
@@ -160,6 +163,24 @@ pub fn get_path_parts(
         at = next;
     }
     Cut::Parts(count, opened && 0 < count)
+}
+
+// What a cut answers: the number of parts, or the refusal.
+pub fn cut_answer(cut: Cut) -> Answer
+    ensures { λ r. ⌜ r ≡ cutAnswer cut ⌝ }
+{
+    match cut {
+        Cut::Parts(count, _) => Answer::Done(count as u64),
+        Cut::NotPermitted => Answer::Refused(Error::PathNotPermitted),
+        Cut::TooLong => Answer::Refused(Error::InvalidArgument),
+    }
+}
+
+// The scope's number of a cut: 0 unless the path is refused.
+pub fn cut_number(cut: Cut) -> u32
+    ensures { λ r. ⌜ r ≡ cutNumber cut ⌝ }
+{
+    types::number(cut_answer(cut))
 }
 
 // Whether an entry may have the name: a single piece that is kept as a part, and not too long.

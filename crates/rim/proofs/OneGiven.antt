@@ -1,12 +1,16 @@
 -- What a call gives, from the answer that it has; and that a contract leaves one number, one content of the memory and one count.
 -- Assumes nothing.
-use mathlib.Core.Path.{_≡_, sym, ap, _∙_}
+use mathlib.Core.Path.{_≡_, refl, sym, ap, _∙_}
 use mathlib.Core.List.{List}
 use Prim.Native.Nat.{ℕ}
-use Rattle.types.specs.Answers.{number, value}
+use Rattle.types.specs.Answers.{errorNumber, number, value}
 use Rattle.types.specs.Outcomes.{Outcome, outcome}
 use Rattle.types.specs.declared.Answer.{Answer}
-use Rattle.rim.specs.Given.{Gives, GivesCount}
+use Rattle.types.specs.declared.Error.{Error}
+use Rattle.lentilraft.specs.declared.naming.NameAt.{NameAt}
+use Rattle.lentilraft.specs.declared.naming.NextName.{NextName}
+use Rattle.lentilraft.specs.declared.naming.NextName.the-variants.{At, Refused}
+use Rattle.rim.specs.Given.{Gives, GivesCount, GivesValue, GivesName}
 
 -- ---- given
 
@@ -17,6 +21,17 @@ module _ {a : Answer} {l : List ℕ} {o : Outcome} (e : outcome a l ≡ o) {r : 
   pub gives-count : {c : ℕ} → c ≡ value a → GivesCount o r l c
   gives-count k = record { number = h ∙ ap (λ u. number (u .answer)) e; bytes = ap (λ u. u .bytes) e; count = k ∙ ap (λ u. value (u .answer)) e }
 
+pub gives-value : {a b : Answer} {r c : ℕ} → a ≡ b → r ≡ number a → c ≡ value a → GivesValue b r c
+gives-value e h k = record { number = h ∙ ap number e; told = k ∙ ap value e }
+
+-- next entry's parts, and its refusal
+module _ {n o : NextName} (e : n ≡ o) where
+  pub gives-name : {x : NameAt} → n ≡ At x → GivesName o 0 (x .at) (x .long) (x .index) (x .node)
+  gives-name k = rw (← e, k) (record { number = refl; start = refl; length = refl; indexed = refl; noded = refl })
+
+  pub gives-no-name : {x : Error} {r : ℕ} → n ≡ Refused x → r ≡ errorNumber x → GivesName o r 0 0 0 0
+  gives-no-name k h = rw (← e, k) (record { number = h; start = refl; length = refl; indexed = refl; noded = refl })
+
 -- ---- one outcome
 
 pub one-given : {o : Outcome} {r s : ℕ} {l m : List ℕ} → Gives o r l → Gives o s m → (r ≡ s) × (l ≡ m)
@@ -24,3 +39,9 @@ one-given a b = (a .number ∙ sym (b .number), a .bytes ∙ sym (b .bytes))
 
 pub one-counted : {o : Outcome} {r s : ℕ} {l m : List ℕ} {c d : ℕ} → GivesCount o r l c → GivesCount o s m d → (r ≡ s) × (l ≡ m) × (c ≡ d)
 one-counted a b = (a .number ∙ sym (b .number), a .bytes ∙ sym (b .bytes), a .count ∙ sym (b .count))
+
+pub one-valued : {a : Answer} {r s c d : ℕ} → GivesValue a r c → GivesValue a s d → (r ≡ s) × (c ≡ d)
+one-valued a b = (a .number ∙ sym (b .number), a .told ∙ sym (b .told))
+
+pub one-named : {n : NextName} {r s a b l m i j x y : ℕ} → GivesName n r a l i x → GivesName n s b m j y → (r ≡ s) × (a ≡ b) × (l ≡ m) × (i ≡ j) × (x ≡ y)
+one-named p q = (p .number ∙ sym (q .number), p .start ∙ sym (q .start), p .length ∙ sym (q .length), p .indexed ∙ sym (q .indexed), p .noded ∙ sym (q .noded))

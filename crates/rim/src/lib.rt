@@ -1,14 +1,16 @@
 // The public calls for programs in C or Rust. Each function here is a call and the scope's numbers of its answer, and nothing else: it asks
 // nothing of its caller, and gives back 0 or the number of a refusal.
+use lentilraft::NextName;
 use types::Limit;
 ghost use mathlib.Core.Path.{_≡_};
 ghost use Rattle.types.specs.declared.Limit.the-variants.{Unlimited, AtMost};
 ghost use Rattle.types.specs.Answers.{number};
 ghost use Rattle.allocator.specs.Opening.{opened};
 ghost use Rattle.volume.specs.Fresh.{newVolume};
-ghost use Rattle.lentilraft.specs.Door.{check, setChunkSize, setLimit, read, resizeFile, write};
+ghost use Rattle.lentilraft.specs.Door.{check, setChunkSize, setLimit, read, resize, write, findNode, create, link, unlinkByte, remove};
+ghost use Rattle.lentilraft.specs.EntryGiven.{nextName};
 ghost use Rattle.lentilraft.specs.Report.{report};
-ghost use Rattle.rim.specs.Given.{Gives, GivesCount};
+ghost use Rattle.rim.specs.Given.{Gives, GivesCount, GivesValue, GivesName};
 
 // Makes the memory a new volume with these rooms and this chunk size.
 #[no_mangle]
@@ -93,7 +95,7 @@ pub extern "C" fn lentilraft_clear_limit(volume: &mut [u8], node: u64) -> u32
 // Gives a file another size. What it gains reads zero.
 #[no_mangle]
 pub extern "C" fn lentilraft_resize_file(volume: &mut [u8], node: u64, size: u64) -> u32
-    ensures { λ r. ⌜ Gives (resizeFile node size (now (volume .entry))) r (now (volume .exit)) ⌝ }
+    ensures { λ r. ⌜ Gives (resize node size (now (volume .entry))) r (now (volume .exit)) ⌝ }
 {
     types::number(lentilraft::resize_file(volume, node, size))
 }
@@ -112,4 +114,102 @@ pub extern "C" fn lentilraft_write(
     let answer = lentilraft::write(volume, node, offset, bytes);
     *count = types::value(answer);
     types::number(answer)
+}
+
+// Finds the node that a path leads to from a start. The node goes through a lent place: 0 for a refusal.
+#[no_mangle]
+pub extern "C" fn lentilraft_find_node(
+    volume: &[u8],
+    start: u64,
+    path: &[u8],
+    node: &mut u64,
+) -> u32
+    ensures { λ r. ⌜ GivesValue (findNode start (now (path .entry)) (now (volume .entry))) r (now (node .exit)) ⌝ }
+{
+    let answer = lentilraft::find_node(volume, start, path);
+    *node = types::value(answer);
+    types::number(answer)
+}
+
+// Finds the entry of a directory with the least index at or above one: where its name stands in the volume, how long it is, its index and
+// its node go through lent places, each 0 for a refusal.
+#[no_mangle]
+pub extern "C" fn lentilraft_next_entry(
+    volume: &[u8],
+    directory: u64,
+    from: u32,
+    at: &mut u64,
+    length: &mut u64,
+    index: &mut u32,
+    node: &mut u64,
+) -> u32
+    ensures { λ r. ⌜ GivesName (nextName directory from (now (volume .entry))) r (now (at .exit)) (now (length .exit)) (now (index .exit)) (now (node .exit)) ⌝ }
+{
+    match lentilraft::next_name(volume, directory, from) {
+        NextName::At(name) => {
+            *at = name.at as u64;
+            *length = name.long as u64;
+            *index = name.index;
+            *node = name.node;
+            0
+        }
+        NextName::Refused(error) => {
+            *at = 0;
+            *length = 0;
+            *index = 0;
+            *node = 0;
+            types::error_number(error)
+        }
+    }
+}
+
+// Makes a node of a type (0 a directory, 1 a regular file, 2 a symbolic link) and names it in a directory. The node goes through a lent
+// place: 0 for a refusal.
+#[no_mangle]
+pub extern "C" fn lentilraft_create(
+    volume: &mut [u8],
+    parent: u64,
+    name: &[u8],
+    kind: u8,
+    node: &mut u64,
+) -> u32
+    ensures { λ r. ⌜ GivesCount (create parent (now (name .entry)) kind (now (volume .entry))) r (now (volume .exit)) (now (node .exit)) ⌝ }
+{
+    let answer = lentilraft::create(volume, parent, name, kind);
+    *node = types::value(answer);
+    types::number(answer)
+}
+
+// Names a file in a directory once more.
+#[no_mangle]
+pub extern "C" fn lentilraft_link(volume: &mut [u8], parent: u64, name: &[u8], target: u64) -> u32
+    ensures { λ r. ⌜ Gives (link parent (now (name .entry)) target (now (volume .entry))) r (now (volume .exit)) ⌝ }
+{
+    types::number(lentilraft::link(volume, parent, name, target))
+}
+
+// Takes the name that a path leads to out of its directory. Expected: 0 any kind, 1 a directory, 2 a file. The node goes through a lent place:
+// 0 for a refusal.
+#[no_mangle]
+pub extern "C" fn lentilraft_unlink(
+    volume: &mut [u8],
+    start: u64,
+    path: &[u8],
+    expected: u8,
+    opens: u64,
+    node: &mut u64,
+) -> u32
+    ensures { λ r. ⌜ GivesCount (unlinkByte start (now (path .entry)) expected opens (now (volume .entry))) r (now (volume .exit)) (now (node .exit)) ⌝ }
+{
+    let answer = lentilraft::unlink_byte(volume, start, path, expected, opens);
+    *node = types::value(answer);
+    types::number(answer)
+}
+
+// Frees the chunks of a node that has no name left, and takes it away.
+#[no_mangle]
+pub extern "C" fn lentilraft_remove(volume: &mut [u8], node: u64) -> u32
+    ensures { λ r. ⌜ Gives (remove node (now (volume .entry))) r (now (volume .exit)) ⌝ }
+{
+    types::number(lentilraft::remove(volume, node))
 }

@@ -10,7 +10,8 @@ use denote.Enum.Declared.{tagOf}
 use Rattle.words.specs.Bytes.{word, Bytes}
 use Rattle.words.specs.Tables.{Asc}
 use Rattle.words.proofs.Numbers.{num-part}
-use Rattle.words.proofs.Rules.{Says, says-map, says-both, says-and, says-true, true-says}
+use Rattle.words.specs.Rules.{Says}
+use Rattle.words.proofs.Rules.{says-map, says-both, says-and, says-true, true-says}
 use Rattle.allocator.specs.Allocator.{free, readAllocator}
 use Rattle.allocator.proofs.Sizes.{accepted-bounds}
 use Rattle.volume.specs.Header.{atChunkRoom, atChunkSize}
@@ -18,14 +19,14 @@ use Rattle.volume.specs.declared.Layout.{Layout}
 use Rattle.volume.specs.declared.Place.{Place}
 use Rattle.volume.specs.declared.Place.the-variants.{At}
 use Rattle.volume.specs.Volume.{Names, Store, Volume, shown}
-use Rattle.volume.specs.Geometry.{layoutIn}
+use Rattle.volume.specs.Layouts.{layoutIn}
 use Rattle.volume.specs.Framed.{Framed}
 use Rattle.volume.specs.Sound.{nodeBefore, entryBefore, Named, Stored, Good, Sound}
 use Rattle.volume.proofs.Place.{the-type}
 use Rattle.volume.proofs.GeometryRules.{place-fails, place-passes, place-layout}
 use Rattle.volume.proofs.Laid.{framed-formed}
 use Rattle.tables.specs.Tables.{Ready}
-use Rattle.soundness.specs.Checked.{ordered, numbered, related, named, stored, good, sound, opened}
+use Rattle.soundness.specs.Checked.{ordered, numbered, related, named, stored, good, sound, placeIfSound}
 use Rattle.soundness.proofs.FrameRules.{says-framed}
 use Rattle.soundness.proofs.OrderRules.{says-node-order, says-entry-order, says-chunk-order, says-indexed, says-below, says-names, says-unnamed, says-root}
 use Rattle.soundness.proofs.EntryRules.{says-parents, says-targets, says-once}
@@ -98,7 +99,7 @@ pub framed-ready : (l : List ℕ) → Bytes l → Framed l → {y : Layout} → 
 framed-ready l b f e = record { formed = framed-formed l b f; layout = unfold shown in e }
 
 -- a place that was given says whether the memory is sound, and where its areas start
-module _ (l : List ℕ) {r : Place} (h : r ≡ opened l) where
+module _ (l : List ℕ) {r : Place} (h : r ≡ placeIfSound l) where
   pub not-opened : tagOf the-type r ≡ 1 → sound l ≡ false
   not-opened t = place-fails (sound l) (layoutIn l) h t
 

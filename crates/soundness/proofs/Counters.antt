@@ -10,12 +10,13 @@ use lib.Dec.{eqb}
 use lib.ListN.{length, getD, set, replicate, getD-replicate, length-replicate, length-set}
 use lib.Seq.{getD-set-same, getD-set-other}
 use borrow.Author.Tests.{eqb-true, eqb-false}
-use Rattle.words.specs.Rules.{bit, tally, times}
+use Rattle.words.specs.Rules.{bit, times, Says, holds, fails}
+use Rattle.words.specs.Tests.{tally}
 use Rattle.words.specs.Tables.{Asc}
 use Rattle.words.proofs.Order.{each-at}
 use Rattle.words.proofs.Places.{asc-at}
 use Rattle.words.proofs.FoundRows.{none-passes}
-use Rattle.words.proofs.Rules.{Says, holds, fails, says-eqb, tally-turn, tally-le, tally-times}
+use Rattle.words.proofs.Rules.{says-eqb, tally-turn, tally-le, tally-times}
 use Rattle.words.proofs.Counting.{bit-same, bit-apart}
 use Rattle.types.specs.declared.NodeRecord.{NodeRecord}
 use Rattle.volume.specs.Rows.{Entry, readNode, readEntry}

@@ -10,10 +10,11 @@ use native.Mathlib.Omega.{arith}
 use denote.Enum.Declared.{tagOf}
 use lib.Dec.{eqb}
 use lib.ListN.{length}
-use Rattle.words.specs.Rules.{upto, same}
-use Rattle.words.specs.Tables.{Each, Asc, Falls, find, lead}
+use Rattle.words.specs.Rules.{upto, same, Says, holds, fails}
+use Rattle.words.specs.Tables.{Each, Asc, find, lead}
+use Rattle.words.specs.Tests.{Falls}
 use Rattle.words.proofs.Places.{each-places, asc-at, at-asc}
-use Rattle.words.proofs.Rules.{Says, holds, fails, true-says, says-map, says-not, says-upto, upto-start, upto-turn, upto-fail, upto-end}
+use Rattle.words.proofs.Rules.{true-says, says-map, says-not, says-upto, upto-start, upto-turn, upto-fail, upto-end}
 use Rattle.words.proofs.Blocks.{says-same}
 use Rattle.words.proofs.Search.{asc-falls, lead-above, lead-below}
 use Rattle.types.specs.Nodes.{isDirectory}

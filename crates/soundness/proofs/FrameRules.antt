@@ -8,11 +8,12 @@ use native.Mathlib.Omega.{arith}
 use lib.ListN.{length, take, drop}
 use lib.Dec.{eqb, leb}
 use Rattle.words.specs.Bytes.{word, part}
-use Rattle.words.specs.Rules.{both, allZero}
+use Rattle.words.specs.Rules.{both, Says, holds}
+use Rattle.words.specs.Tests.{allZero}
 use Rattle.words.proofs.Parts.{length-part}
 use Rattle.words.proofs.Numbers.{num-part}
 use Rattle.words.proofs.Joined.{both-false, upto-all}
-use Rattle.words.proofs.Rules.{Says, holds, says-map, says-both, says-and, says-upto, says-eqb, says-leb, says-itself, says-true, go-on}
+use Rattle.words.proofs.Rules.{says-map, says-both, says-and, says-upto, says-eqb, says-leb, says-itself, says-true, go-on}
 use Rattle.words.proofs.Blocks.{says-zeros}
 use Rattle.allocator.specs.Sizes.{acceptedSize}
 use Rattle.allocator.specs.Allocator.{marker}
@@ -22,12 +23,13 @@ use Rattle.volume.specs.Rows.{nodeRow, entryRow, chunkRow}
 use Rattle.volume.specs.Volume.{form, atNodes, atEntries, atChunks}
 use Rattle.volume.specs.declared.Place.{Place}
 use Rattle.volume.specs.declared.Layout.{Layout}
-use Rattle.volume.specs.Geometry.{layoutIn, placed, placeIf, placeOf}
+use Rattle.volume.specs.Geometry.{placed}
+use Rattle.volume.specs.Layouts.{layoutIn, placeIf, placeOf}
 use Rattle.volume.specs.Framed.{Headed, Marked, NodeFormed, EntryFormed, RowsFormed, Framed}
 use Rattle.volume.specs.RowTests.{nodeFormed, entryFormed}
 use Rattle.volume.proofs.RowTests.{says-node, says-entry}
 use Rattle.volume.proofs.GeometryRules.{says-placed}
-use Rattle.soundness.specs.FrameRules.{headed, marked, rowsFormed, formed, framed}
+use Rattle.soundness.specs.FrameRules.{headed, marked, rowsFormed, areasFormed, framed}
 
 -- ---- the tests mean what the records say
 
@@ -53,7 +55,7 @@ says-rows Row row s l at used room h each =
     (says-both (says-upto (λ i. Row (at + s * i)) (λ i. row (at + s * i)) used each) (says-zeros l (at + s * used) (s * (room - used)) h))
 
 pub says-framed : (l : List ℕ) → Says (Framed l) (framed l)
-unfolding framed formed
+unfolding framed areasFormed
 says-framed l =
     says-map (λ p. record { headed = p .0; marked = p .1 .0; nodes = p .1 .1 .0; entries = p .1 .1 .1 .0; chunks = p .1 .1 .1 .1 }) (λ f. (f .headed, (f .marked, (f .nodes, (f .entries, f .chunks)))))
     (says-and (says-headed l) (λ h. says-both (says-marked l)

@@ -7,10 +7,10 @@ use mathlib.Core.Logic.{_⊎_, inl, inr}
 use Prim.Native.Nat.{_+_, _≤_}
 use native.Mathlib.Omega.{arith}
 use lib.Dec.{eqb}
-use Rattle.words.specs.Rules.{bit}
+use Rattle.words.specs.Rules.{bit, Says, holds, fails}
 use Rattle.words.specs.Tables.{Each}
 use Rattle.words.proofs.Places.{each-places}
-use Rattle.words.proofs.Rules.{Says, holds, fails, says-map, says-both, says-if, says-either, says-eqb, says-leb}
+use Rattle.words.proofs.Rules.{says-map, says-both, says-if, says-either, says-eqb, says-leb}
 use Rattle.types.specs.Nodes.{fileLimit}
 use Rattle.types.proofs.Nodes.{says-directory, says-unlimited}
 use Rattle.types.specs.declared.Limit.the-variants.{Unlimited}

@@ -9,12 +9,12 @@ use native.Mathlib.Omega.{arith}
 use lib.Dec.{eqb, ltb, leb}
 use lib.ListN.{length}
 use borrow.Author.Tests.{ne-eqb, le-leb}
-use Rattle.words.specs.Rules.{both, pick, upto}
+use Rattle.words.specs.Rules.{both, pick, upto, Says, fails}
 use Rattle.words.specs.Tables.{Each, Asc, find}
 use Rattle.words.proofs.Order.{each-map}
 use Rattle.words.proofs.Places.{each-places, asc-places}
 use Rattle.words.proofs.Counting.{none-pass, pass-none}
-use Rattle.words.proofs.Rules.{Says, fails, says-map, says-leb, says-ltb, says-itself, says-opposite}
+use Rattle.words.proofs.Rules.{says-map, says-leb, says-ltb, says-itself, says-opposite}
 use Rattle.words.proofs.Search.{find-none}
 use Rattle.types.specs.Nodes.{isDirectory}
 use Rattle.types.proofs.Nodes.{says-directory}

@@ -10,11 +10,12 @@ use lib.Dec.{eqb}
 use lib.ListN.{length, take, drop, getD}
 use lib.Seq.{drop-drop}
 use Rattle.words.specs.Bytes.{part}
-use Rattle.words.specs.Rules.{either, allZero}
+use Rattle.words.specs.Rules.{either, Says, holds, fails}
+use Rattle.words.specs.Tests.{allZero}
 use Rattle.words.specs.Tables.{Asc, find}
 use Rattle.words.proofs.Order.{each-at}
 use Rattle.words.proofs.Places.{each-places}
-use Rattle.words.proofs.Rules.{Says, holds, fails, says-map, says-both, says-and, says-not, says-ltb}
+use Rattle.words.proofs.Rules.{says-map, says-both, says-and, says-not, says-ltb}
 use Rattle.words.proofs.Blocks.{says-zero-part, zero-part}
 use Rattle.words.proofs.Multiples.{parts, step-apart}
 use Rattle.types.specs.Sizes.{mostSize}
@@ -35,7 +36,7 @@ use Rattle.tables.specs.declared.Found.the-variants.{At, Nothing}
 use Rattle.tables.proofs.ReadyVolume.{rooms, count-bytes}
 use Rattle.tables.proofs.LentAllocator.{size-bounds}
 use Rattle.tables.proofs.TableSearch.{node-found, node-absent}
-use Rattle.soundness.specs.OwnerRules.{tailZero, ownedBy, ownedWhere, chunkOwned, owned}
+use Rattle.soundness.specs.OwnerRules.{tailZero, ownedBy, ownedWhere, rowOwned, chunksOwned}
 
 -- ---- what the code finds
 
@@ -61,12 +62,12 @@ module _ (l : List ℕ) (y : Layout) (r : Ready l y) where
 
 -- a row, and where the row of its node was found
 module _ (a : Names) (s : Store) (i : ℕ) {c : ChunkRow} {f : Found} (p : c ≡ chunkAt (s .chunks) i) (q : f ≡ foundNode (c .node) (a .nodes)) where
-  pub no-owner : f ≡ Nothing → false ≡ chunkOwned a s i
-  unfolding chunkOwned ownedWhere
+  pub no-owner : f ≡ Nothing → false ≡ rowOwned a s i
+  unfolding rowOwned ownedWhere
   no-owner e = rw (← p, ← q, e)
 
-  pub by-owner : {k z : ℕ} {r : NodeRecord} {b : Bool} → f ≡ At k → r ≡ nodeAt (a .nodes) k → z ≡ s .allocator .chunkSize → b ≡ ownedBy z (s .bytes) c r → b ≡ chunkOwned a s i
-  unfolding chunkOwned ownedWhere
+  pub by-owner : {k z : ℕ} {r : NodeRecord} {b : Bool} → f ≡ At k → r ≡ nodeAt (a .nodes) k → z ≡ s .allocator .chunkSize → b ≡ ownedBy z (s .bytes) c r → b ≡ rowOwned a s i
+  unfolding rowOwned ownedWhere
   by-owner e k z h = h ∙ rw (k, z, ← p, ← q, e)
 
 -- ---- what the tests mean
@@ -114,8 +115,8 @@ module _ (s : ℕ) (pos : 0 < s) (bytes : List ℕ) (c : ChunkRow) where
       go (At i) e = rw (node-found (c .node) rs i e .1) (says-by (nodeAt rs i))
       go Nothing e = rw (node-absent (c .node) rs a e) (fails (λ z. z))
 
-pub says-owned : (a : Names) (s : Store) → 0 < s .allocator .chunkSize → Asc nodeBefore (a .nodes) → Says (ChunksOwned a s) (owned a s)
-unfolding owned chunkOwned node
+pub says-owned : (a : Names) (s : Store) → 0 < s .allocator .chunkSize → Asc nodeBefore (a .nodes) → Says (ChunksOwned a s) (chunksOwned a s)
+unfolding chunksOwned rowOwned node
 says-owned a s pos o =
     each-places (λ c. Owned (s .allocator .chunkSize) (s .bytes) c (node (c .node) a)) (readChunk [])
     (λ c. ownedWhere (s .allocator .chunkSize) (s .bytes) (a .nodes) c (foundNode (c .node) (a .nodes))) (λ c. says-where (s .allocator .chunkSize) pos (s .bytes) c (a .nodes) o) (s .chunks)

@@ -3,31 +3,32 @@
 use mathlib.Core.Path.{_≡_, refl, sym, _∙_, ap}
 use mathlib.Core.Bool.{Bool, true, false}
 use mathlib.Core.List.{List, [], map}
-use Prim.Native.Nat.{ℕ, zero, suc, _+_, _*_, _/_, _%_, _≤_, _<_, _-_}
+use Prim.Native.Nat.{ℕ, zero, suc, _+_, _*_, _/_, _%_, _≤_, _<_}
 use native.Mathlib.Nat.{mul-le-mul, mul-mod-left, div-lt-iff-lt-mul, le-div-iff-mul-le, suc-mul}
 use native.Mathlib.Omega.{arith}
 use lib.Dec.{eqb, ltb}
 use lib.ListN.{length, getD}
-use lib.Seq.{length-take-le, getD-take}
 use borrow.Author.Tests.{eq-eqb, ne-eqb}
-use Rattle.words.specs.Rules.{count, upto, tally}
+use Rattle.words.specs.Rules.{count, upto, Says, holds, fails}
+use Rattle.words.specs.Tests.{tally}
 use Rattle.words.specs.Bytes.{word}
 use Rattle.words.proofs.Counting.{tally-some, count-map, tally-none}
-use Rattle.words.proofs.Rules.{Says, holds, fails, says-map, says-both, says-upto, says-eqb, says-ltb, says-leb, tally-times, tally-same, upto-same}
+use Rattle.words.proofs.Rules.{says-map, says-both, says-upto, says-eqb, says-ltb, says-leb, tally-times, upto-same}
 use Rattle.words.proofs.Multiples.{whole}
-use Rattle.words.proofs.Tables.{table-at}
 use Rattle.allocator.specs.Opening.{lined, freeWord}
 use Rattle.allocator.specs.Pointers.{due}
-use Rattle.allocator.specs.Allocator.{Allocator, free, readAllocator, readWord}
+use Rattle.allocator.specs.Allocator.{Allocator, free, readAllocator}
 use Rattle.allocator.proofs.Accounts.{due-facts, due-one, due-none}
-use Rattle.allocator.proofs.Laid.{first-word}
+use Rattle.allocator.specs.Words.{WordsFormed}
+use Rattle.allocator.proofs.OpenWords as OpenWords
+use Rattle.allocator.proofs.OpenWords.{says-lined}
 use Rattle.volume.specs.Header.{atChunkRoom}
 use Rattle.volume.specs.declared.ChunkRow.{ChunkRow}
 use Rattle.volume.specs.Rows.{readChunk}
 use Rattle.volume.specs.declared.Layout.{Layout}
-use Rattle.volume.specs.Volume.{shown}
+use Rattle.volume.specs.Volume.{shown, wordsIn}
 use Rattle.tables.specs.Tables.{chunkAt, Ready}
-use Rattle.tables.proofs.LentAllocator.{wordsIn, words-long, lentWords, words-lent, lent-long}
+use Rattle.tables.proofs.LentAllocator.{lentWords, words-lent, lent-long, lent-formed}
 use Rattle.soundness.specs.PointerRules.{nextFits, rowsLined, freeLined, rowsStanding, freeStanding, pointersOnce, pointersGood}
 
 -- ---- what the tests mean
@@ -35,11 +36,6 @@ use Rattle.soundness.specs.PointerRules.{nextFits, rowsLined, freeLined,
 pub says-next : (s next area c : ℕ) → Says ((next % s ≡ 0) × ((next ≤ area) × (next ≤ c * s))) (nextFits s next area c)
 unfolding nextFits
 says-next s next area c = says-both (says-eqb (next % s) 0) (says-both (says-leb next area) (says-leb next (c * s)))
-
--- a multiple below word 3
-says-lined : (s next p : ℕ) → Says ((p % s ≡ 0) × (p < next)) (lined s next p)
-unfolding lined
-says-lined s next p = says-both (says-eqb (p % s) 0) (says-ltb p next)
 
 -- tallies over places are counts over lists
 rows-counted : (cs : List ChunkRow) (p : ℕ) → rowsStanding cs p ≡ count p (map (λ c. c .pointer) cs)
@@ -121,29 +117,25 @@ module _ (l : List ℕ) (y : Layout) (r : Ready l y) where
   pub count-room : 128 + 8 * allocator .freeCount ≤ length (lentWords l y r)
   count-room = omega (arith, lent-long l y r, count-fits)
 
-  rows-of-words : length (allocator .words) ≡ word l atChunkRoom
-  rows-of-words = unfold shown in r .formed .fits .store .words
+  words-formed : WordsFormed (wordsIn l)
+  words-formed = rw words-lent at (lent-formed l y r)
 
   free-length : length (free allocator) ≡ allocator .freeCount
-  unfolding free
-  free-length = length-take-le (allocator .freeCount) (allocator .words) (omega (arith, count-fits, rows-of-words))
+  free-length = unfold shown readAllocator in OpenWords.free-length (wordsIn l) words-formed
 
-  free-at : (i : ℕ) → i < allocator .freeCount → getD (free allocator) i 0 ≡ freeWord (wordsIn l y r) i
-  unfolding free freeWord shown readAllocator
-  free-at i h =
-      getD-take (allocator .freeCount) (allocator .words) i 0 h
-      ∙ table-at readWord 8 (wordsIn l y r) 128 (length (wordsIn l y r) / 8 - 16) i 0 (omega (arith, words-long l y r, count-fits)) ∙ first-word (wordsIn l y r) (128 + 8 * i)
+  free-at : (i : ℕ) → i < allocator .freeCount → getD (free allocator) i 0 ≡ freeWord (wordsIn l) i
+  free-at i h = unfold shown readAllocator in OpenWords.free-at (wordsIn l) words-formed i h
 
   -- what stands in the part that is lent
   pub free-stands : (p : ℕ) {count x : ℕ} → count ≡ allocator .freeCount → x ≡ tally count (λ i. eqb (freeWord (lentWords l y r) i) p) → x ≡ freeStanding (free allocator) p
-  unfolding freeStanding
   free-stands p e q =
-      q ∙ rw (words-lent l y r, e, free-length) (tally-same (λ i. eqb (freeWord (wordsIn l y r) i) p) (λ i. eqb (getD (free allocator) i 0) p) (allocator .freeCount) (λ i h. ap (λ (k : ℕ). eqb k p) (sym (free-at i h))))
+      let counted : tally (allocator .freeCount) (λ i. eqb (freeWord (wordsIn l) i) p) ≡ count p (free allocator) = unfold shown readAllocator in OpenWords.words-counted (wordsIn l) words-formed p in
+      q ∙ rw (words-lent l y r, e) (counted ∙ sym (free-counted (free allocator) p))
 
   pub free-lines : (s next : ℕ) {count : ℕ} {b : Bool} → count ≡ allocator .freeCount → b ≡ upto count (λ i. lined s next (freeWord (lentWords l y r) i)) → b ≡ freeLined s next (free allocator)
   unfolding freeLined
   free-lines s next e q =
-      q ∙ rw (words-lent l y r, e, free-length) (upto-same (λ i. lined s next (freeWord (wordsIn l y r) i)) (λ i. lined s next (getD (free allocator) i 0)) (allocator .freeCount) (λ i h. ap (lined s next) (sym (free-at i h))))
+      q ∙ rw (words-lent l y r, e, free-length) (upto-same (λ i. lined s next (freeWord (wordsIn l) i)) (λ i. lined s next (getD (free allocator) i 0)) (allocator .freeCount) (λ i h. ap (lined s next) (sym (free-at i h))))
 
 -- ---- for the code: numbers that it read
 

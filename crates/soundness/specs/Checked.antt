@@ -1,4 +1,4 @@
--- The whole check: the frame, then the rules of the tables, grouped as `Good` is: nodes and entries, the chunk store, and what they say of each
+-- Inner: the whole check: the frame, then the rules of the tables, grouped as `Good` is: nodes and entries, the chunk store, and what they say of each
 -- other; each group in the scope's order. A rule that searches a table stands behind that table's order.
 -- Assumes nothing.
 use Prim.Native.Nat.{ℕ}
@@ -9,13 +9,13 @@ use Rattle.words.specs.Rules.{both}
 use Rattle.allocator.specs.Allocator.{free}
 use Rattle.volume.specs.declared.Place.{Place}
 use Rattle.volume.specs.Volume.{Names, Store, Volume, shown}
-use Rattle.volume.specs.Geometry.{layoutIn, placeIf}
+use Rattle.volume.specs.Layouts.{layoutIn, placeIf}
 use Rattle.soundness.specs.FrameRules.{framed}
 use Rattle.soundness.specs.OrderRules.{nodesAscend, entriesAscend, chunksAscend, indexed, nodesBelow, rooted, rootUnnamed, namesAllowed}
 use Rattle.soundness.specs.EntryRules.{parentsGood, targetsFound, namesOnce}
 use Rattle.soundness.specs.NodeRules.{nodesGood}
 use Rattle.soundness.specs.PointerRules.{nextFits, pointersGood}
-use Rattle.soundness.specs.OwnerRules.{owned}
+use Rattle.soundness.specs.OwnerRules.{chunksOwned}
 
 -- ---- nodes and entries
 
@@ -46,11 +46,11 @@ stored s =
 -- ---- all of it
 
 unfoldable pub good : Volume → Bool
-good v = both (named (v .names)) (both (stored (v .store)) (owned (v .names) (v .store)))
+good v = both (named (v .names)) (both (stored (v .store)) (chunksOwned (v .names) (v .store)))
 
 unfoldable pub sound : List ℕ → Bool
 sound l = both (framed l) (good (shown l))
 
 -- where the areas of a sound memory start
-abbrev pub opened : List ℕ → Place
-opened l = placeIf (sound l) (layoutIn l)
+abbrev pub placeIfSound : List ℕ → Place
+placeIfSound l = placeIf (sound l) (layoutIn l)

@@ -1,4 +1,4 @@
--- Counters by the rows of the nodes: what one more entry makes of them.
+-- Inner: counters by the rows of the nodes: what one more entry makes of them.
 -- Assumes nothing.
 use Prim.Native.Nat.{ℕ, _+_}
 use mathlib.Core.List.{List}

@@ -1,4 +1,4 @@
--- Rules between entries and the nodes they name, and between entries of one directory, as tests by their places in the tables.
+-- Inner: rules between entries and the nodes they name, and between entries of one directory, as tests by their places in the tables.
 -- Assumes nothing.
 use Prim.Native.Nat.{ℕ, _+_, _-_}
 use mathlib.Core.Bool.{Bool, true, false, not}

@@ -1,4 +1,4 @@
--- The frame as a test, rule by rule: what the check computes of the bytes before it reads any table.
+-- Inner: the frame as a test, rule by rule: what the check computes of the bytes before it reads any table.
 -- Assumes nothing.
 use Prim.Native.Nat.{ℕ, _+_, _-_, _*_}
 use mathlib.Core.Bool.{Bool, true}
@@ -6,7 +6,8 @@ use mathlib.Core.List.{List}
 use lib.ListN.{length}
 use lib.Dec.{eqb, leb}
 use Rattle.words.specs.Bytes.{word, part}
-use Rattle.words.specs.Rules.{both, upto, allZero}
+use Rattle.words.specs.Rules.{both, upto}
+use Rattle.words.specs.Tests.{allZero}
 use Rattle.allocator.specs.Sizes.{acceptedSize}
 use Rattle.allocator.specs.Allocator.{marker}
 use Rattle.volume.specs.Header.{atChunkRoom, atChunkSize, atChunksUsed, atEntriesUsed, atEntryRoom, atForm, atFreeCount, atMarker, atNodeRoom, atNodesUsed}
@@ -30,12 +31,12 @@ unfoldable pub rowsFormed : (ℕ → Bool) → ℕ → List ℕ → ℕ → ℕ 
 rowsFormed row s l at used room = both (upto used (λ i. row (at + s * i))) (allZero (part l (at + s * used) (s * (room - used))))
 
 -- the marker, and the rows of each table
-unfoldable pub formed : List ℕ → Bool
-formed l =
+unfoldable pub areasFormed : List ℕ → Bool
+areasFormed l =
     both (marked l)
     (both (rowsFormed (nodeFormed l) nodeRow l (atNodes (word l atChunkRoom)) (word l atNodesUsed) (word l atNodeRoom))
     (both (rowsFormed (entryFormed l) entryRow l (atEntries (word l atNodeRoom) (word l atChunkRoom)) (word l atEntriesUsed) (word l atEntryRoom))
     (rowsFormed (λ _. true) chunkRow l (atChunks (word l atNodeRoom) (word l atEntryRoom) (word l atChunkRoom)) (word l atChunksUsed) (word l atChunkRoom))))
 
 unfoldable pub framed : List ℕ → Bool
-framed l = both (headed l) (formed l)
+framed l = both (headed l) (areasFormed l)

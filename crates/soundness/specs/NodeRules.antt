@@ -1,4 +1,4 @@
--- Rules of a node's row that count entries, as tests: links, a directory's entries and size, limits.
+-- Inner: rules of a node's row that count entries, as tests: links, a directory's entries and size, limits.
 -- Assumes nothing.
 use Prim.Native.Nat.{ℕ, _+_}
 use mathlib.Core.Bool.{Bool, true}

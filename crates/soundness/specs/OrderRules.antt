@@ -1,4 +1,4 @@
--- Rules of the rows as tests, by their places in the tables: orders, indexes, next node, node 0, names.
+-- Inner: rules of the rows as tests, by their places in the tables: orders, indexes, next node, node 0, names.
 -- Assumes nothing.
 use Prim.Native.Nat.{ℕ, _+_, _-_}
 use mathlib.Core.Bool.{Bool, not}

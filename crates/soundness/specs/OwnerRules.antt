@@ -1,4 +1,4 @@
--- Rules of chunk rows as tests: whose chunk it is, how far its index may reach, and the zeros above the size.
+-- Inner: rules of chunk rows as tests: whose chunk it is, how far its index may reach, and the zeros above the size.
 -- Assumes nothing.
 use Prim.Native.Nat.{ℕ, _+_, _-_, _/_, _%_}
 use mathlib.Core.Bool.{Bool, false, not}
@@ -6,7 +6,8 @@ use mathlib.Core.List.{List}
 use lib.ListN.{length}
 use lib.Dec.{ltb}
 use Rattle.words.specs.Bytes.{part}
-use Rattle.words.specs.Rules.{both, either, upto, allZero}
+use Rattle.words.specs.Rules.{both, either, upto}
+use Rattle.words.specs.Tests.{allZero}
 use Rattle.types.specs.Nodes.{isDirectory}
 use Rattle.types.specs.declared.NodeRecord.{NodeRecord}
 use Rattle.volume.specs.declared.ChunkRow.{ChunkRow}
@@ -29,8 +30,8 @@ ownedWhere s bytes rs c (At i) = ownedBy s bytes c (nodeAt rs i)
 ownedWhere s bytes rs c Nothing = false
 
 -- the chunk in row i has an owner that can have it
-unfoldable pub chunkOwned : Names → Store → ℕ → Bool
-chunkOwned a s i = ownedWhere (s .allocator .chunkSize) (s .bytes) (a .nodes) (chunkAt (s .chunks) i) (foundNode (chunkAt (s .chunks) i .node) (a .nodes))
+unfoldable pub rowOwned : Names → Store → ℕ → Bool
+rowOwned a s i = ownedWhere (s .allocator .chunkSize) (s .bytes) (a .nodes) (chunkAt (s .chunks) i) (foundNode (chunkAt (s .chunks) i .node) (a .nodes))
 
-unfoldable pub owned : Names → Store → Bool
-owned a s = upto (length (s .chunks)) (λ i. chunkOwned a s i)
+unfoldable pub chunksOwned : Names → Store → Bool
+chunksOwned a s = upto (length (s .chunks)) (λ i. rowOwned a s i)

@@ -1,11 +1,12 @@
--- Rules of the pointers as tests: word 3, and that each multiple of the chunk size below it stands exactly once among row pointers and free pointers.
+-- Inner: rules of the pointers as tests: word 3, and that each multiple of the chunk size below it stands exactly once among row pointers and free pointers.
 -- Assumes nothing.
 use Prim.Native.Nat.{ℕ, _+_, _*_, _/_, _%_}
 use mathlib.Core.Bool.{Bool}
 use mathlib.Core.List.{List}
 use lib.ListN.{length, getD}
 use lib.Dec.{eqb, leb}
-use Rattle.words.specs.Rules.{both, upto, tally}
+use Rattle.words.specs.Rules.{both, upto}
+use Rattle.words.specs.Tests.{tally}
 use Rattle.allocator.specs.Opening.{lined}
 use Rattle.volume.specs.declared.ChunkRow.{ChunkRow}
 use Rattle.tables.specs.Tables.{chunkAt}

@@ -23,7 +23,7 @@ ghost use Rattle.words.specs.Tables.{Asc};
 ghost use Rattle.volume.specs.Volume.{shown};
 ghost use Rattle.volume.specs.Sound.{nodeBefore, entryBefore};
 ghost use Rattle.tables.specs.Tables.{Ready};
-ghost use Rattle.soundness.specs.Checked.{ordered, numbered, related, named, stored, good, opened};
+ghost use Rattle.soundness.specs.Checked.{ordered, numbered, related, named, stored, good, placeIfSound};
 
 // Whether the rows of nodes and of entries strictly ascend.
 fn is_ordered(volume: &[u8], layout: Layout) -> bool
@@ -121,7 +121,7 @@ fn is_good(volume: &[u8], layout: Layout) -> bool
 
 // Opens a memory, of any length and content: where its areas start if it is a sound volume, else nowhere.
 pub fn open(volume: &[u8]) -> Place
-    ensures { λ r. ⌜ r ≡ opened (now (volume .entry)) ⌝ }
+    ensures { λ r. ⌜ r ≡ placeIfSound (now (volume .entry)) ⌝ }
 {
     let Place::At(layout) = read_header(volume) else {
         return Place::Nowhere;

@@ -7,10 +7,10 @@ ghost use Prim.Native.Nat.{_+_, _*_, _≤_};
 ghost use lib.ListN.{length};
 ghost use Rattle.words.specs.Rules.{upto};
 ghost use Rattle.volume.specs.Rows.{chunkRow, entryRow, nodeRow};
-ghost use Rattle.volume.specs.Geometry.{layoutIn, placeIf};
+ghost use Rattle.volume.specs.Layouts.{layoutIn, placeIf};
 ghost use Rattle.volume.specs.Framed.{Headed};
 ghost use Rattle.volume.specs.RowTests.{nodeFormed, entryFormed};
-ghost use Rattle.soundness.specs.FrameRules.{headed, marked, rowsFormed, formed};
+ghost use Rattle.soundness.specs.FrameRules.{headed, marked, rowsFormed, areasFormed};
 
 // The header's bytes: the allocator's words stand behind it.
 const HEADER: usize = volume::ALLOCATOR;
@@ -120,7 +120,7 @@ fn chunks_formed(volume: &[u8], base: usize, used: usize, room: usize) -> bool
 // Whether the allocator's words and the rows of each table have their form.
 pub fn is_formed(volume: &[u8], layout: Layout) -> bool
     requires { ⌜ Headed (now volume) × (layout ≡ layoutIn (now volume)) ⌝ }
-    ensures { λ r. ⌜ r ≡ formed (now (volume .entry)) ⌝ }
+    ensures { λ r. ⌜ r ≡ areasFormed (now (volume .entry)) ⌝ }
 {
     if !is_marked(volume, layout) {
         return false;

@@ -10,7 +10,7 @@ ghost use Rattle.types.specs.Sizes.{mostSize};
 ghost use Rattle.volume.specs.Volume.{shown};
 ghost use Rattle.volume.specs.Sound.{Named, Stored};
 ghost use Rattle.tables.specs.Tables.{Ready};
-ghost use Rattle.soundness.specs.OwnerRules.{tailZero, ownedBy, chunkOwned, owned};
+ghost use Rattle.soundness.specs.OwnerRules.{tailZero, ownedBy, rowOwned, chunksOwned};
 
 // Whether the bytes of a chunk above the file's size are zero. Only a chunk that the size ends in has any.
 fn tail_zero(volume: &[u8], layout: Layout, span: u64, row: ChunkRow, size: u64) -> bool
@@ -46,7 +46,7 @@ fn owned_by(volume: &[u8], layout: Layout, span: u64, row: ChunkRow, owner: Node
 // the area.
 fn chunk_owned(volume: &[u8], layout: Layout, span: u64, i: usize) -> bool
     requires { ⌜ Ready (now volume) layout × Named (shown (now volume) .names) × Stored (shown (now volume) .store) × (span ≡ shown (now volume) .store .allocator .chunkSize) × (i < length (shown (now volume) .store .chunks)) ⌝ }
-    ensures { λ r. ⌜ r ≡ chunkOwned (shown (now (volume .entry)) .names) (shown (now (volume .entry)) .store) i ⌝ }
+    ensures { λ r. ⌜ r ≡ rowOwned (shown (now (volume .entry)) .names) (shown (now (volume .entry)) .store) i ⌝ }
 {
     let row = tables::chunk_row(volume, layout, i);
     let found = tables::find_node(volume, layout, row.node);
@@ -65,7 +65,7 @@ fn chunk_owned(volume: &[u8], layout: Layout, span: u64, i: usize) -> bool
 // Whether every chunk row has an owner that can have its chunk.
 pub fn is_owned(volume: &[u8], layout: Layout, span: u64) -> bool
     requires { ⌜ Ready (now volume) layout × Named (shown (now volume) .names) × Stored (shown (now volume) .store) × (span ≡ shown (now volume) .store .allocator .chunkSize) ⌝ }
-    ensures { λ r. ⌜ r ≡ owned (shown (now (volume .entry)) .names) (shown (now (volume .entry)) .store) ⌝ }
+    ensures { λ r. ⌜ r ≡ chunksOwned (shown (now (volume .entry)) .names) (shown (now (volume .entry)) .store) ⌝ }
 {
     let used = tables::chunks_used(volume, layout);
     let mut i = 0;

@@ -13,19 +13,20 @@ use native.Mathlib.Omega.{arith}
 use lib.Dec.{eqb}
 use lib.ListN.{length, getD}
 use Rattle.words.specs.Bytes.{over}
-use Rattle.words.specs.Rules.{both}
+use Rattle.words.specs.Rules.{both, Says, holds, fails}
 use Rattle.words.specs.Tables.{Each, Asc}
-use Rattle.words.proofs.Rules.{Says, holds, fails, says-true, true-says, false-says, says-both, says-eqb}
+use Rattle.words.proofs.Rules.{says-true, true-says, false-says, says-both, says-eqb}
 use Rattle.words.proofs.Order.{asc-map}
 use Rattle.words.proofs.Numbers.{getD-over-before, getD-over-after}
 use Rattle.words.proofs.Multiples.{gap, chunk-of}
 use Rattle.words.proofs.FoundRows.{found-passes, found-each, each-found, count-two}
-use Rattle.allocator.proofs.Accounts.{Due, due-most}
+use Rattle.allocator.proofs.Accounts.{due-most}
+use Rattle.allocator.specs.Pointers.{Due}
 use Rattle.volume.specs.declared.ChunkRow.{ChunkRow}
 use Rattle.volume.specs.Volume.{Store}
 use Rattle.volume.specs.Sound.{chunkBefore}
 use Rattle.tables.proofs.StoredRows.{Inside, rows-due, rows-inside}
-use Rattle.tables.specs.Tables.{isChunk, chunk}
+use Rattle.tables.specs.OneRow.{isChunk, chunk}
 use Rattle.store.specs.Content.{byteIn, byteAt}
 use Rattle.store.proofs.Content.{byte-within}
 use Rattle.tables.proofs.ChunkCursor.{says-chunk}

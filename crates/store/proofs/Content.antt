@@ -13,7 +13,7 @@ use Rattle.words.proofs.Parts.{length-part, length-zeros}
 use Rattle.words.proofs.Multiples.{within-chunk, within-rest}
 use Rattle.volume.specs.declared.ChunkRow.{ChunkRow}
 use Rattle.volume.specs.Volume.{Store}
-use Rattle.tables.specs.Tables.{chunk}
+use Rattle.tables.specs.OneRow.{chunk}
 use Rattle.store.specs.Content.{byteIn, byteAt, bytesFrom}
 
 -- ---- runs of bytes, over any volume and node

@@ -10,8 +10,8 @@ use native.Mathlib.Omega.{arith}
 use lib.ListN.{length, length-map}
 use lib.Seq.{length-take-le}
 use Rattle.words.specs.Tables.{Each, only}
-use Rattle.words.specs.Rules.{count}
-use Rattle.words.proofs.Rules.{Says, says-both, says-eqb, says-leb, says-true, true-says, false-says}
+use Rattle.words.specs.Rules.{count, Says}
+use Rattle.words.proofs.Rules.{says-both, says-eqb, says-leb, says-true, true-says, false-says}
 use Rattle.allocator.specs.Allocator.{free, released}
 use Rattle.allocator.specs.Pointers.{Accounted}
 use Rattle.allocator.proofs.Counted.{all-pointers}
@@ -20,7 +20,7 @@ use Rattle.volume.specs.Volume.{Store, withAllocator}
 use Rattle.volume.specs.Framed.{ChunkFits, StoreFits}
 use Rattle.volume.specs.Sound.{chunkBefore}
 use Rattle.volume.proofs.Framed.{fits-chunks, fits-allocator}
-use Rattle.tables.specs.Tables.{isChunk, chunk}
+use Rattle.tables.specs.OneRow.{isChunk, chunk}
 use Rattle.tables.proofs.ChunkCursor.{says-chunk}
 use Rattle.tables.proofs.StoredRows.{live, stored-accounted}
 use Rattle.store.specs.Content.{byteAt}

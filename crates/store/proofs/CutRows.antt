@@ -13,7 +13,8 @@ use lib.Seq.{length-take-le}
 use borrow.Author.Tests.{ne-eqb, eqb-false}
 use Rattle.words.proofs.Runs.{Past, Run, run, lead-only}
 use Rattle.words.specs.Tables.{lead, Asc, only}
-use Rattle.words.proofs.Rules.{Says, holds, fails, says-true, true-says, says-false, false-says, says-eqb}
+use Rattle.words.specs.Rules.{Says, holds, fails}
+use Rattle.words.proofs.Rules.{says-true, true-says, says-false, false-says, says-eqb}
 use Rattle.words.proofs.Order.{asc-map}
 use Rattle.words.proofs.Search.{lead-le, asc-falls}
 use Rattle.volume.specs.declared.ChunkRow.{ChunkRow}

@@ -15,7 +15,8 @@ use Rattle.words.proofs.Search.{lead-from}
 use Rattle.volume.specs.declared.ChunkRow.{ChunkRow}
 use Rattle.volume.specs.Search.{chunkUnder}
 use Rattle.volume.specs.Sound.{chunkBefore}
-use Rattle.tables.specs.Tables.{chunkAt, isChunk, chunk}
+use Rattle.tables.specs.Tables.{chunkAt}
+use Rattle.tables.specs.OneRow.{isChunk, chunk}
 use Rattle.store.specs.Room.{hole, missing}
 use Rattle.tables.proofs.ChunkCursor.{row-yes, row-no}
 

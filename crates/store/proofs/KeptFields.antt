@@ -11,12 +11,12 @@ use Rattle.words.specs.Tables.{Each, lead, insertAt}
 use Rattle.words.proofs.Order.{each-insert}
 use Rattle.allocator.specs.Allocator.{allocate, wordsOf}
 use Rattle.allocator.proofs.Sizes.{accepted-bounds}
-use Rattle.allocator.proofs.Laid as AllocatorLaid
+use Rattle.allocator.proofs.Laid.{WordsFit}
 use Rattle.allocator.proofs.Allocated.{Rest, allocate-rest, allocate-count}
 use Rattle.volume.specs.declared.ChunkRow.{ChunkRow}
 use Rattle.volume.specs.Search.{chunkUnder}
 use Rattle.volume.specs.Volume.{Store, withAllocator, withChunks}
-use Rattle.tables.specs.Tables.{chunk}
+use Rattle.tables.specs.OneRow.{chunk}
 use Rattle.volume.specs.Framed.{ChunkFits, StoreFits}
 use Rattle.volume.proofs.Framed.{fits-allocator, fits-chunks, fits-bytes}
 use Rattle.store.specs.Room.{room}
@@ -74,7 +74,7 @@ module _ (v : Store) (f : StoreFits v) (st : Workable v) (n k : ℕ) (node : n <
       let e : allocate (v .allocator) .after .nextPtr ≤ v .chunkRoom * v .allocator .chunkSize = rw (allocate-rest (v .allocator) .size) at (taken-stored v st some-room n k gap .stored .enough) in
       omega arith
 
-  after-fits : AllocatorLaid.Fits (allocate (v .allocator) .after)
+  after-fits : WordsFit (allocate (v .allocator) .after)
   unfolding wordsOf Each
   after-fits =
       let r = allocate-rest (v .allocator) in

@@ -13,7 +13,7 @@ use Rattle.types.specs.declared.NodeRecord.{NodeRecord}
 use Rattle.volume.specs.declared.ChunkRow.{ChunkRow}
 use Rattle.volume.specs.Volume.{Names, Store}
 use Rattle.volume.specs.Sound.{roundUp, chunkBefore, ChunkOwned, Owned, node, ChunksOwned}
-use Rattle.tables.specs.Tables.{chunk}
+use Rattle.tables.specs.OneRow.{chunk}
 use Rattle.store.specs.Content.{byteIn, byteAt}
 use Rattle.store.proofs.ChunkPlaces.{row-key, row-each, each-row, row-byte}
 

@@ -19,7 +19,7 @@ use Rattle.volume.specs.Search.{chunkUnder}
 use Rattle.volume.specs.Volume.{Store, withBytes}
 use Rattle.volume.specs.Framed.{StoreFits}
 use Rattle.volume.proofs.Framed.{fits-bytes}
-use Rattle.tables.specs.Tables.{chunk}
+use Rattle.tables.specs.OneRow.{chunk}
 use Rattle.store.specs.Content.{byteAt}
 use Rattle.store.specs.Room.{room, hole, missing}
 use Rattle.store.specs.Written.{lowOf, highOf, pieceOf, put, putFor}

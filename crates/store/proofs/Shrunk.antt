@@ -13,16 +13,16 @@ use lib.Dec.{eqb, ltb}
 use lib.ListN.{length, getD-replicate}
 use borrow.Author.Tests.{ltb-false}
 use Rattle.words.specs.Bytes.{zeros}
-use Rattle.words.specs.Rules.{pick, both}
+use Rattle.words.specs.Rules.{pick, both, Says, holds, fails}
 use Rattle.words.proofs.Parts.{length-zeros}
 use Rattle.words.proofs.Multiples.{parts, chunk-of}
-use Rattle.words.proofs.Rules.{Says, holds, fails, says-eqb}
+use Rattle.words.proofs.Rules.{says-eqb}
 use Rattle.volume.specs.declared.ChunkRow.{ChunkRow}
 use Rattle.volume.specs.Volume.{Store}
 use Rattle.volume.specs.Framed.{StoreFits}
 use Rattle.volume.specs.Sound.{roundUp}
 use Rattle.volume.proofs.Rounding.{up-lt, lt-up, up-le, up-even, up-odd}
-use Rattle.tables.specs.Tables.{chunk}
+use Rattle.tables.specs.OneRow.{chunk}
 use Rattle.store.specs.Content.{byteAt}
 use Rattle.store.specs.Room.{tailHole, room, hole}
 use Rattle.store.specs.Written.{writeChunk}

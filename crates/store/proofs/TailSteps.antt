@@ -24,7 +24,8 @@ use Rattle.volume.proofs.Rounding.{up-even, up-odd}
 use Rattle.volume.specs.Search.{chunkUnder}
 use Rattle.volume.specs.Volume.{Store, withBytes}
 use Rattle.volume.specs.Sound.{chunkBefore, roundUp}
-use Rattle.tables.specs.Tables.{chunkAt, isChunk, chunk}
+use Rattle.tables.specs.Tables.{chunkAt}
+use Rattle.tables.specs.OneRow.{isChunk, chunk}
 use Rattle.store.specs.Room.{room, tailHole}
 use Rattle.store.specs.Taken.{taken}
 use Rattle.store.specs.Written.{lowOf, highOf, pieceOf, writeChunk}

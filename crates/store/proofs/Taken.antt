@@ -24,14 +24,14 @@ use Rattle.words.proofs.Multiples.{gap}
 use Rattle.words.proofs.FoundRows.{none-passes, find-insert-other, find-insert-here, count-insert, count-found}
 use Rattle.words.proofs.Written.{over-at}
 use Rattle.allocator.specs.Allocator.{Allocator, allocate}
-use Rattle.allocator.specs.Pointers.{Accounted}
-use Rattle.allocator.proofs.Accounts.{Due, allocate-accounts, allocate-lined, live-once}
+use Rattle.allocator.specs.Pointers.{Accounted, Due}
+use Rattle.allocator.proofs.Accounts.{allocate-accounts, allocate-lined, live-once}
 use Rattle.allocator.proofs.Allocated.{Rest, allocate-rest, allocate-count, allocate-inside, allocate-left, allocate-enough, left}
 use Rattle.volume.specs.declared.ChunkRow.{ChunkRow}
 use Rattle.volume.specs.Volume.{Store}
 use Rattle.volume.specs.Search.{chunkUnder, PairBefore}
 use Rattle.volume.specs.Sound.{chunkBefore}
-use Rattle.tables.specs.Tables.{isChunk, chunk}
+use Rattle.tables.specs.OneRow.{isChunk, chunk}
 use Rattle.volume.proofs.PairOrder.{pair-trans}
 use Rattle.store.specs.Content.{byteAt}
 use Rattle.store.specs.Room.{room}

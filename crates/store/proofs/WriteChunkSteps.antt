@@ -16,7 +16,8 @@ use Rattle.allocator.specs.Allocator.{allocate}
 use Rattle.volume.specs.declared.ChunkRow.{ChunkRow}
 use Rattle.volume.specs.Search.{chunkUnder}
 use Rattle.volume.specs.Volume.{Store, withBytes}
-use Rattle.tables.specs.Tables.{chunkAt, isChunk, chunk}
+use Rattle.tables.specs.Tables.{chunkAt}
+use Rattle.tables.specs.OneRow.{isChunk, chunk}
 use Rattle.store.specs.Room.{room, hole}
 use Rattle.store.specs.Taken.{taken, ensured, ensuredFor}
 use Rattle.store.specs.Written.{lowOf, highOf, pieceOf, writeChunk}
@@ -51,15 +52,15 @@ module _ (v : Store) (st : Workable v) (n offset : ℕ) (bs : List ℕ) (k : ℕ
       rw (gone, put-is (taken n k v) (taken-stored v st one n k gone) n offset bs k u (newRow n k v) (taken-here v st one n k gone), z, at, e)
 
 -- where the piece lies
-abbrev pub Cut : ℕ → ℕ → ℕ → ℕ → ℕ → ℕ → ℕ → Type 0
-Cut s offset len k from start count = (from ≡ lowOf s offset k - k * s) × (start ≡ lowOf s offset k - offset) × (count ≡ highOf s offset len k - lowOf s offset k)
+abbrev pub PieceLies : ℕ → ℕ → ℕ → ℕ → ℕ → ℕ → ℕ → Type 0
+PieceLies s offset len k from start count = (from ≡ lowOf s offset k - k * s) × (start ≡ lowOf s offset k - offset) × (count ≡ highOf s offset len k - lowOf s offset k)
 
 module _ (v : Store) (st : Workable v) (n offset : ℕ) (bs : List ℕ) (k row : ℕ) (at : row ≡ lead (chunkUnder n k) (v .chunks)) (t : Touched (v .allocator .chunkSize) offset (length bs) k) {s from start count : ℕ}
-    (size : (s ≡ v .allocator .chunkSize) × (0 < s) × (s ≤ 65536)) (cut : Cut s offset (length bs) k from start count) where
+    (size : (s ≡ v .allocator .chunkSize) × (0 < s) × (s ≤ 65536)) (cut : PieceLies s offset (length bs) k from start count) where
   abbrev S : ℕ
   S = v .allocator .chunkSize
 
-  cut-there : Cut S offset (length bs) k from start count
+  cut-there : PieceLies S offset (length bs) k from start count
   cut-there = rw (size .0) at cut
 
   pub piece-ends : start + count ≤ length bs

@@ -12,7 +12,7 @@ use Rattle.words.specs.Tables.{lead}
 use Rattle.volume.specs.declared.ChunkRow.{ChunkRow}
 use Rattle.volume.specs.Search.{chunkUnder}
 use Rattle.volume.specs.Volume.{Store}
-use Rattle.tables.specs.Tables.{chunk}
+use Rattle.tables.specs.OneRow.{chunk}
 use Rattle.store.specs.Content.{byteAt}
 use Rattle.store.specs.Room.{room, hole, missing}
 use Rattle.store.specs.Taken.{taken}

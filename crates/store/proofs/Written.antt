@@ -11,12 +11,13 @@ use native.Mathlib.Decide.{decLt}
 use native.Mathlib.Omega.{arith}
 use lib.Dec.{eqb}
 use lib.ListN.{length, getD}
-use Rattle.words.proofs.Rules.{Says, holds, fails, says-eqb}
+use Rattle.words.specs.Rules.{Says, holds, fails}
+use Rattle.words.proofs.Rules.{says-eqb}
 use Rattle.words.proofs.Multiples.{parts, div-mono}
 use Rattle.volume.specs.declared.ChunkRow.{ChunkRow}
 use Rattle.volume.specs.Volume.{Store}
 use Rattle.volume.specs.Framed.{StoreFits}
-use Rattle.tables.specs.Tables.{chunk}
+use Rattle.tables.specs.OneRow.{chunk}
 use Rattle.store.specs.Content.{byteAt}
 use Rattle.store.specs.Room.{room, firstOf, numOf, holes}
 use Rattle.store.specs.Written.{written}

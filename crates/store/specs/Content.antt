@@ -1,4 +1,4 @@
--- What tables and chunks show of a file: its bytes, a hole's as zeros. Over any chunk size.
+-- Believed: what tables and chunks show of a file: its bytes, a hole's as zeros. Over any chunk size.
 -- Assumes nothing.
 use Prim.Native.Nat.{ℕ, zero, suc, _+_, _/_, _%_}
 use mathlib.Core.List.{List, [], _∷_}
@@ -6,7 +6,7 @@ use mathlib.Core.Option.{Option, none, some}
 use lib.ListN.{getD}
 use Rattle.volume.specs.declared.ChunkRow.{ChunkRow}
 use Rattle.volume.specs.Volume.{Store}
-use Rattle.tables.specs.Tables.{chunk}
+use Rattle.tables.specs.OneRow.{chunk}
 
 abbrev pub byteIn : List ℕ → Option ChunkRow → ℕ → ℕ
 byteIn bytes none i = 0

@@ -1,4 +1,4 @@
--- A file's chunks freed from an index on, and zeros behind its new end. Over any chunk size.
+-- Believed: a file's chunks freed from an index on, and zeros behind its new end. Over any chunk size.
 -- Assumes nothing.
 use Prim.Native.Nat.{ℕ, _-_, _/_, _%_}
 use mathlib.Core.Bool.{Bool, not}

@@ -1,4 +1,4 @@
--- Room for new chunks, and how many of them a call needs. Over any chunk size.
+-- Believed: room for new chunks, and how many of them a call needs. Over any chunk size.
 -- Assumes nothing.
 use Prim.Native.Nat.{ℕ, zero, suc, _+_, _-_, _/_, _%_, min}
 use mathlib.Core.List.{List}
@@ -8,7 +8,7 @@ use lib.ListN.{length}
 use Rattle.words.specs.Rules.{pick}
 use Rattle.volume.specs.declared.ChunkRow.{ChunkRow}
 use Rattle.volume.specs.Volume.{Store}
-use Rattle.tables.specs.Tables.{chunk}
+use Rattle.tables.specs.OneRow.{chunk}
 
 -- the lesser of C - rows and word 2 + (A - word 3) / S, rounded down
 unfoldable pub room : Store → ℕ

@@ -1,4 +1,4 @@
--- A chunk taken. Over any chunk size.
+-- Believed: a chunk taken. Over any chunk size.
 -- Assumes nothing.
 use Prim.Native.Nat.{ℕ}
 use mathlib.Core.Option.{Option, none, some}
@@ -8,7 +8,7 @@ use Rattle.allocator.specs.Allocator.{allocate}
 use Rattle.volume.specs.declared.ChunkRow.{ChunkRow}
 use Rattle.volume.specs.Search.{chunkUnder}
 use Rattle.volume.specs.Volume.{Store, withAllocator, withChunks, withBytes}
-use Rattle.tables.specs.Tables.{chunk}
+use Rattle.tables.specs.OneRow.{chunk}
 
 -- a chunk taken for index k of node n: allocate's pointer, its row in its place, its bytes zero
 unfoldable pub taken : ℕ → ℕ → Store → Store

@@ -1,4 +1,4 @@
--- What the steps of a write or a cut ask of a store, and keep: the rules of a good store, and of what fits into bytes the part they lean on.
+-- Inner: what the steps of a write or a cut ask of a store, and keep: the rules of a good store, and of what fits into bytes the part they lean on.
 -- Assumes nothing.
 use mathlib.Core.Path.{_≡_}
 use Prim.Native.Nat.{ℕ, _≤_, _<_}

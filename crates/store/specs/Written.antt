@@ -1,4 +1,4 @@
--- Bytes put into chunks, which are taken where there is none. Over any chunk size.
+-- Believed: bytes put into chunks, which are taken where there is none. Over any chunk size.
 -- Assumes nothing.
 use Prim.Native.Nat.{ℕ, zero, suc, _+_, _-_, _*_, min, max}
 use mathlib.Core.List.{List}
@@ -7,7 +7,7 @@ use lib.ListN.{length}
 use Rattle.words.specs.Bytes.{part, over}
 use Rattle.volume.specs.declared.ChunkRow.{ChunkRow}
 use Rattle.volume.specs.Volume.{Store, withBytes}
-use Rattle.tables.specs.Tables.{chunk}
+use Rattle.tables.specs.OneRow.{chunk}
 use Rattle.store.specs.Room.{firstOf, numOf}
 use Rattle.store.specs.Taken.{ensured}
 

@@ -7,8 +7,8 @@ use mathlib.Core.Option.{Option, some}
 use Prim.Native.Nat.{ℕ, _+_, _≤_, _<_}
 use native.Mathlib.Omega.{arith}
 use lib.Dec.{eqb}
-use Rattle.words.specs.Rules.{bit}
-use Rattle.words.proofs.Rules.{Says, holds, fails, says-eqb}
+use Rattle.words.specs.Rules.{bit, Says, holds, fails}
+use Rattle.words.proofs.Rules.{says-eqb}
 use Rattle.words.proofs.Order.{each-map}
 use Rattle.types.specs.Sizes.{mostSize}
 use Rattle.types.specs.Nodes.{limitWord, fileLimit}

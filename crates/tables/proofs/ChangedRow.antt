@@ -10,9 +10,9 @@ use native.Mathlib.Omega.{arith}
 use lib.Dec.{eqb}
 use lib.ListN.{length, length-map, set}
 use borrow.Author.Tests.{eq-eqb, ne-eqb, eqb-true}
-use Rattle.words.specs.Rules.{pick}
+use Rattle.words.specs.Rules.{pick, Says, holds, fails}
 use Rattle.words.specs.Tables.{Each, Asc, find}
-use Rattle.words.proofs.Rules.{Says, holds, fails, says-eqb}
+use Rattle.words.proofs.Rules.{says-eqb}
 use Rattle.words.proofs.Order.{each-at, each-map}
 use Rattle.types.specs.declared.NodeRecord.{NodeRecord}
 use Rattle.volume.specs.Rows.{readNode}

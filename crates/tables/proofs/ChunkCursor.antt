@@ -12,16 +12,17 @@ use native.Mathlib.Decide.{decLt}
 use lib.Dec.{eqb, ltb}
 use lib.ListN.{length}
 use borrow.Author.Tests.{eq-eqb, ne-eqb, lt-ltb, le-ltb}
-use Rattle.words.specs.Rules.{both}
+use Rattle.words.specs.Rules.{both, Says}
 use Rattle.words.specs.Tables.{Asc, lead}
-use Rattle.words.proofs.Rules.{Says, says-true, true-says, says-false, false-says, says-itself, says-eqb, says-ltb, says-both, stop, go-on}
+use Rattle.words.proofs.Rules.{says-true, true-says, says-false, false-says, says-itself, says-eqb, says-ltb, says-both, stop, go-on}
 use Rattle.words.proofs.Order.{asc-map}
 use Rattle.words.proofs.Search.{lead-above, lead-stays, lead-next, asc-falls, find-found, find-missing}
 use Rattle.volume.specs.declared.ChunkRow.{ChunkRow}
 use Rattle.volume.specs.Rows.{readChunk}
 use Rattle.volume.specs.Search.{chunkUnder, PairBefore}
 use Rattle.volume.specs.Sound.{chunkBefore}
-use Rattle.tables.specs.Tables.{chunkAt, isChunk, chunk}
+use Rattle.tables.specs.Tables.{chunkAt}
+use Rattle.tables.specs.OneRow.{isChunk, chunk}
 use Rattle.volume.proofs.PairOrder.{says-pair, pair-falls}
 
 -- ---- keys (n, k) and (n, k + 1)

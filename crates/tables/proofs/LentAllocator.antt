@@ -10,14 +10,14 @@ use Rattle.words.specs.Bytes.{part, word}
 use Rattle.words.specs.Rules.{pick}
 use Rattle.words.proofs.Parts.{length-part, lent-at}
 use Rattle.types.specs.declared.Answer.{Answer}
-use Rattle.allocator.specs.Allocator.{Allocator, Step, readAllocator, layAllocator, allocate, release, setChunkSize}
-use Rattle.allocator.specs.Words as AllocatorWords
+use Rattle.allocator.specs.Allocator.{Allocator, AllocatorStep, readAllocator, layAllocator, allocate, release, setChunkSize}
+use Rattle.allocator.specs.Words.{WordsFormed}
 use Rattle.allocator.proofs.Sizes.{accepted-bounds}
 use Rattle.allocator.proofs.Allocated.{allocate-rest}
 use Rattle.volume.specs.Header.{atChunkRoom}
 use Rattle.volume.specs.declared.Layout.{Layout}
 use Rattle.volume.specs.Framed.{Framed}
-use Rattle.volume.specs.Volume.{shown, laid, withAllocator, onStore}
+use Rattle.volume.specs.Volume.{wordsIn, shown, laid, withAllocator, onStore}
 use Rattle.volume.proofs.Laid.{spaced, length-allocator, allocator-formed}
 use Rattle.volume.proofs.Framed.{framed-laid, spaced-allocator}
 use Rattle.volume.proofs.AreaWrites.{write-allocator}
@@ -40,7 +40,7 @@ release-keeps p a = record { unread = refl; words = length-set (a .words) (a .fr
 same : (a : Allocator) → Kept a a
 same a = record { unread = refl; words = refl }
 
-keeps-either : (a : Allocator) (b : Bool) (x y : Step) → Kept a (x .after) → Kept a (y .after) → Kept a (pick b x y .after)
+keeps-either : (a : Allocator) (b : Bool) (x y : AllocatorStep) → Kept a (x .after) → Kept a (y .after) → Kept a (pick b x y .after)
 unfolding pick
 keeps-either a true x y p q = p
 keeps-either a false x y p q = q
@@ -50,18 +50,14 @@ unfolding setChunkSize
 size-keeps s a = keeps-either a _ _ _ (keeps-either a _ _ _ (same a) (keeps-either a _ _ _ (record { unread = refl; words = refl }) (same a))) (same a)
 
 module _ (l : List ℕ) (y : Layout) (r : Ready l y) where
-  -- the allocator's words
-  abbrev pub wordsIn : List ℕ
-  wordsIn = part l 64 (128 + 8 * word l atChunkRoom)
-
-  pub words-long : length wordsIn ≡ 128 + 8 * word l atChunkRoom
+  words-long : length (wordsIn l) ≡ 128 + 8 * word l atChunkRoom
   words-long = length-part l 64 (128 + 8 * word l atChunkRoom) (omega (arith, rooms l y r))
 
   -- the part that is lent of the volume
   abbrev pub lentWords : List ℕ
   lentWords = take (y .nodes - 64) (drop 64 l)
 
-  pub words-lent : lentWords ≡ wordsIn
+  pub words-lent : lentWords ≡ wordsIn l
   unfolding part
   words-lent = let e : y .nodes - 64 ≡ 128 + 8 * word l atChunkRoom = omega (arith, rooms l y r) in rw e
 
@@ -87,7 +83,7 @@ module _ (l : List ℕ) (y : Layout) (r : Ready l y) where
   pub framed : Framed l
   framed = rw (r .formed .same) at (framed-laid (shown l) (r .formed .fits))
 
-  pub lent-formed : AllocatorWords.Formed lentWords
+  pub lent-formed : WordsFormed lentWords
   lent-formed = rw words-lent (allocator-formed l framed)
 
   -- what a call on them leaves of the volume

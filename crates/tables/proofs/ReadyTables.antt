@@ -9,13 +9,14 @@ use native.Mathlib.Nat.{mul-add, mul-one}
 use native.Mathlib.Omega.{arith}
 use lib.ListN.{length, take, drop, getD, set}
 use Rattle.words.specs.Bytes.{part, over, zeros, spell, word}
-use Rattle.words.specs.Tables.{table, lead, Falls, Asc, insertAt, removeAt}
+use Rattle.words.specs.Tables.{table, lead, Asc, insertAt, removeAt}
+use Rattle.words.specs.Tests.{Falls}
 use Rattle.words.proofs.Tables.{table-at}
 use Rattle.words.proofs.Search.{asc-falls}
 use Rattle.words.proofs.Areas.{Counted, write-row, append-row, insert-row, remove-rows}
 use Rattle.volume.specs.declared.Layout.{Layout}
 use Rattle.volume.specs.Rows.{readNode, readEntry, readChunk, layNode, layEntry, layChunk, chunkRow, entryRow, nodeRow}
-use Rattle.volume.specs.Volume.{shown, laid, withNext, withNodes, withEntries, withChunks, onNames, onStore}
+use Rattle.volume.specs.Volume.{shown, laid, withNextNode, withNodes, withEntries, withChunks, onNames, onStore}
 use Rattle.volume.proofs.RowBytes.{node-at}
 use Rattle.volume.proofs.Laid.{Spaced, spaced, nodes-counted, entries-counted, chunks-counted}
 use Rattle.volume.proofs.Framed.{told}
@@ -61,7 +62,7 @@ module _ (l : List ℕ) (y : Layout) (r : Ready l y) where
   }
 
   -- the next node set
-  pub next-set : (next : ℕ) {m : List ℕ} → m ≡ over l 56 (spell 8 next) → m ≡ laid (onNames (withNext next) (shown l))
+  pub next-set : (next : ℕ) {m : List ℕ} → m ≡ over l 56 (spell 8 next) → m ≡ laid (onNames (withNextNode next) (shown l))
   next-set next em = onto (laid (shown l)) 56 (spell 8 next) (sym (r .formed .same)) em (write-next (shown l) next)
 
 -- so many rows, and so many more

@@ -10,8 +10,8 @@ use Rattle.words.proofs.Order.{each-at, each-map}
 use Rattle.words.proofs.Multiples.{gap}
 use Rattle.words.proofs.FoundRows.{counted}
 use Rattle.words.proofs.Places.{places-each}
-use Rattle.allocator.specs.Pointers.{Accounted}
-use Rattle.allocator.proofs.Accounts.{Due, live-once}
+use Rattle.allocator.specs.Pointers.{Accounted, Due}
+use Rattle.allocator.proofs.Accounts.{live-once}
 use Rattle.volume.specs.declared.ChunkRow.{ChunkRow}
 use Rattle.volume.specs.Rows.{readChunk}
 use Rattle.volume.specs.Volume.{Store}

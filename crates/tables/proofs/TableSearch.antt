@@ -9,9 +9,9 @@ use native.Mathlib.Omega.{arith}
 use lib.Dec.{eqb, ltb}
 use lib.ListN.{length}
 use borrow.Author.Tests.{eq-eqb, ne-eqb, lt-ltb, le-ltb, ltb-true, ltb-false}
-use Rattle.words.specs.Rules.{pick}
+use Rattle.words.specs.Rules.{pick, Says, holds, fails}
 use Rattle.words.specs.Tables.{lead, Asc, find}
-use Rattle.words.proofs.Rules.{Says, holds, fails, says-ltb, pick-true, pick-false}
+use Rattle.words.proofs.Rules.{says-ltb, pick-true, pick-false}
 use Rattle.words.proofs.Order.{asc-map}
 use Rattle.words.proofs.Search.{asc-falls, find-found, find-missing}
 use Rattle.types.specs.declared.NodeRecord.{NodeRecord}

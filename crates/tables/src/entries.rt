@@ -2,10 +2,11 @@
 use crate::header::entries_used;
 use volume::Layout;
 ghost use mathlib.Core.Path.{_≡_};
-ghost use Prim.Native.Nat.{_≤_, _<_};
+ghost use Prim.Native.Nat.{_+_, _*_, _≤_, _<_};
 ghost use lib.ListN.{length};
 ghost use Rattle.words.specs.Tables.{insertAt, removeAt, lead, Asc};
 ghost use Rattle.types.specs.Sizes.{mostName};
+ghost use Rattle.volume.specs.Rows.{entryRow, nameStart};
 ghost use Rattle.volume.specs.Volume.{shown, laid, withEntries, onNames};
 ghost use Rattle.volume.specs.Search.{entryUnder};
 ghost use Rattle.volume.specs.Sound.{entryBefore};
@@ -45,6 +46,15 @@ pub fn entry_name(volume: &[u8], layout: Layout, place: usize) -> &[u8]
 {
     let base = layout.entries;
     volume::entry_name(volume, base + volume::ENTRY_ROW * place)
+}
+
+// Where the name of the entry at a place starts in the volume.
+pub fn name_start(volume: &[u8], layout: Layout, place: usize) -> usize
+    requires { ⌜ Ready (now volume) layout × (place < length (shown (now volume) .names .entries)) ⌝ }
+    ensures { λ r. ⌜ r ≡ layout .entries + entryRow * place + nameStart ⌝ }
+{
+    let base = layout.entries;
+    base + volume::ENTRY_ROW * place + volume::NAME
 }
 
 // The first row at or above (parent, index).

@@ -3,7 +3,7 @@ use volume::Layout;
 ghost use mathlib.Core.Path.{_≡_};
 ghost use Prim.Native.Nat.{_≤_};
 ghost use lib.ListN.{length};
-ghost use Rattle.volume.specs.Volume.{shown, laid, withNext, onNames};
+ghost use Rattle.volume.specs.Volume.{shown, laid, withNextNode, onNames};
 ghost use Rattle.tables.specs.Tables.{Ready};
 
 // How many rows the node table has.
@@ -28,6 +28,22 @@ pub fn chunks_used(volume: &[u8], layout: Layout) -> usize
     ensures { λ r. ⌜ (r ≡ length (shown (now (volume .entry)) .store .chunks)) × (r ≤ 4096) ⌝ }
 {
     words::get64(volume, volume::CHUNKS_USED) as usize
+}
+
+// How many rows the node table has room for.
+pub fn node_room(volume: &[u8], layout: Layout) -> usize
+    requires { ⌜ Ready (now volume) layout ⌝ }
+    ensures { λ r. ⌜ (r ≡ shown (now (volume .entry)) .names .nodeRoom) × (r ≤ 4096) ⌝ }
+{
+    words::get64(volume, volume::NODE_ROOM) as usize
+}
+
+// How many rows the entry table has room for.
+pub fn entry_room(volume: &[u8], layout: Layout) -> usize
+    requires { ⌜ Ready (now volume) layout ⌝ }
+    ensures { λ r. ⌜ (r ≡ shown (now (volume .entry)) .names .entryRoom) × (r ≤ 4096) ⌝ }
+{
+    words::get64(volume, volume::ENTRY_ROOM) as usize
 }
 
 // How many rows the chunk table has room for.
@@ -57,7 +73,7 @@ pub fn next_node(volume: &[u8], layout: Layout) -> u64
 // Sets the number that the next node made gets.
 pub fn set_next_node(volume: &mut [u8], layout: Layout, next: u64)
     requires { ⌜ Ready (now volume) layout ⌝ }
-    ensures { λ _. ⌜ now (volume .exit) ≡ laid (onNames (withNext next) (shown (now (volume .entry)))) ⌝ }
+    ensures { λ _. ⌜ now (volume .exit) ≡ laid (onNames (withNextNode next) (shown (now (volume .entry)))) ⌝ }
 {
     words::put64(volume, volume::NEXT_NODE, next);
 }

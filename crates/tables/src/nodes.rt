@@ -11,7 +11,8 @@ ghost use lib.ListN.{length, set};
 ghost use Rattle.words.specs.Tables.{removeAt, Asc};
 ghost use Rattle.volume.specs.Volume.{shown, laid, withNodes, onNames};
 ghost use Rattle.volume.specs.Sound.{nodeBefore};
-ghost use Rattle.tables.specs.Tables.{Ready, nodeAt, foundNode, sized, linked, limited};
+ghost use Rattle.tables.specs.Tables.{Ready, nodeAt, foundNode};
+ghost use Rattle.tables.specs.OneRow.{sized, linked, limited};
 
 // The node at a place.
 pub fn node_row(volume: &[u8], layout: Layout, place: usize) -> NodeRecord

@@ -4,7 +4,8 @@ use mathlib.Core.Path.{_≡_, refl, ap}
 use mathlib.Core.Bool.{false, false≢true}
 use Prim.Native.Nat.{ℕ, _≤_}
 use native.Mathlib.Omega.{arith}
-use Rattle.words.proofs.Rules.{Says, holds, fails, says-false}
+use Rattle.words.specs.Rules.{Says, holds, fails}
+use Rattle.words.proofs.Rules.{says-false}
 use Rattle.types.specs.declared.FileType.{FileType}
 use Rattle.types.specs.declared.FileType.the-variants.{Directory, RegularFile, SymbolicLink}
 use Rattle.types.specs.declared.Limit.{Limit}

@@ -1,4 +1,4 @@
--- The scope's table "Numbers given back": the number of each refusal, and the number and the value of an answer.
+-- Believed: the scope's table "Numbers given back": the number of each refusal, and the number and the value of an answer.
 -- Assumes nothing.
 use Prim.Native.Nat.{ℕ}
 use Rattle.types.specs.declared.Error.{Error}

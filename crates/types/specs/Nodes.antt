@@ -1,4 +1,4 @@
--- What rules ask of a node's kind and of its limit.
+-- Believed: what rules ask of a node's kind and of its limit.
 -- Assumes nothing.
 use Prim.Native.Nat.{ℕ}
 use mathlib.Core.Bool.{Bool, true, false}

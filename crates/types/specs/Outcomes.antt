@@ -1,5 +1,6 @@
--- What a call on one lent memory leaves: its answer and the memory's bytes. A refusal leaves the bytes as they were.
+-- Believed: what a call on one lent memory leaves: its answer and the memory's bytes. A refusal leaves the bytes as they were; a promise leaves one outcome.
 -- Assumes nothing.
+use mathlib.Core.Path.{_≡_}
 use Prim.Native.Nat.{ℕ}
 use mathlib.Core.List.{List}
 use Rattle.types.specs.declared.Error.{Error}
@@ -18,3 +19,7 @@ refused e l = outcome (Refused e) l
 
 abbrev pub done : ℕ → List ℕ → Outcome
 done v l = outcome (Done v) l
+
+-- a promise is one equation with what a definition says: any two outcomes that it permits are equal
+abbrev pub OneOutcome : {A : Type 0} → A → Type 0
+OneOutcome {A} said = (one two : A) → one ≡ said → two ≡ said → one ≡ two

@@ -1,4 +1,4 @@
--- The scope's numbers by name, as in src/.
+-- Believed: the scope's numbers by name, as in src/.
 -- Assumes nothing.
 use Prim.Native.Nat.{ℕ}
 

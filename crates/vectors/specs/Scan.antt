@@ -1,4 +1,4 @@
--- Text of numbers: lower-case hexadecimal digits, and between two numbers any other bytes.
+-- Inner: text of numbers: lower-case hexadecimal digits, and between two numbers any other bytes.
 -- Assumes nothing.
 use Prim.Native.Nat.{ℕ, zero, suc, _+_, _-_, _*_, _%_}
 use mathlib.Core.Bool.{cond}

@@ -1,4 +1,4 @@
--- The checksum Adler-32: the sum of the bytes, and the sum of those sums, modulo 65521.
+-- Inner: the checksum Adler-32: the sum of the bytes, and the sum of those sums, modulo 65521.
 -- Assumes nothing.
 use Prim.Native.Nat.{ℕ, _+_, _*_, _%_}
 use mathlib.Core.List.{List, [], _∷_}

@@ -1,13 +1,16 @@
-// Test vectors: numbers read from text, bytes laid out from them, and a checksum to tell many bytes by.
+// Test vectors: numbers read from text, bytes laid out from them or made of a seed, and a checksum to tell many bytes by.
 // Text holds numbers in lower-case hexadecimal, with any other bytes between them.
 mod lay;
 mod scan;
+mod seed;
 mod sum;
 
 pub use lay::lay_runs;
 pub use scan::Scan;
+pub use scan::bytes;
 pub use scan::number;
 pub use scan::numbers;
+pub use seed::fill;
 pub use sum::checksum;
 ghost use mathlib.Core.Path.{_≡_};
 ghost use lib.ListN.{length};

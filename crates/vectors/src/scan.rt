@@ -42,6 +42,22 @@ pub fn numbers(text: &[u8], at: usize, out: &mut [u64]) -> usize
     next
 }
 
+// The first numbers at or after index at as bytes, as many as out holds. Answers the index behind them.
+pub fn bytes(text: &[u8], at: usize, out: &mut [u8]) -> usize
+    requires { ⌜ at ≤ length (now text) ⌝ }
+    ensures { λ r. ⌜ (at ≤ r) × (r ≤ length (now (text .entry))) ⌝ }
+{
+    let mut next = at;
+    let mut i = 0;
+    while i < out.len() {
+        let byte = number(text, next);
+        words::put8(out, i, byte.value);
+        next = byte.next;
+        i += 1;
+    }
+    next
+}
+
 // The index of the first digit at or after index at, or the end.
 fn skip(text: &[u8], at: usize) -> usize
     ensures { λ r. ⌜ (r ≤ length (now (text .entry))) × (drop r (now (text .entry)) ≡ fromDigit (drop at (now (text .entry)))) ⌝ }

@@ -9,7 +9,7 @@ use Rattle.words.specs.Bytes.{over, spell}
 use Rattle.words.proofs.Written.{over-all}
 use Rattle.words.proofs.Tables.{put-word, over-joined}
 use Rattle.allocator.specs.Allocator.{Allocator, layAllocator}
-use Rattle.volume.specs.Volume.{Volume, heads, areas, laid, atBytes, withNext, withAllocator, withBytes, onNames, onStore}
+use Rattle.volume.specs.Volume.{Volume, heads, areas, laid, atBytes, withNextNode, withAllocator, withBytes, onNames, onStore}
 use Rattle.volume.proofs.Laid.{Spaced, length-allocator, starts}
 use Rattle.allocator.proofs.Laid as AllocatorLaid
 
@@ -18,7 +18,7 @@ pub onto : (x : List ℕ) (at : ℕ) (bs : List ℕ) {l m y : List ℕ} → l �
 onto x at bs el em e = em ∙ rw el e
 
 -- the next node written
-pub write-next : (v : Volume) (x : ℕ) → over (laid v) 56 (spell 8 x) ≡ laid (onNames (withNext x) v)
+pub write-next : (v : Volume) (x : ℕ) → over (laid v) 56 (spell 8 x) ≡ laid (onNames (withNextNode x) v)
 unfolding laid
 write-next v x = put-word (heads v) (drop 1 (areas v)) 7 x (omega arith)
 

@@ -12,11 +12,12 @@ use Rattle.allocator.specs.Sizes.{acceptedSize}
 use Rattle.allocator.specs.Allocator.{Allocator, marker}
 use Rattle.volume.specs.declared.ChunkRow.{ChunkRow}
 use Rattle.volume.specs.Rows.{Entry}
-use Rattle.volume.specs.Volume.{Names, Store, Volume, laid, shown, withNext, withAllocator, withNodes, withEntries, withChunks, withBytes, onStore}
-use Rattle.volume.specs.Framed.{Framed, NodeFits, EntryFits, ChunkFits, NamesFits, StoreFits, Fits, Formed}
+use Rattle.volume.specs.Volume.{Names, Store, Volume, laid, shown, withNextNode, withAllocator, withNodes, withEntries, withChunks, withBytes, onStore}
+use Rattle.volume.specs.Framed.{Framed, NodeFits, EntryFits, ChunkFits, NamesFits, StoreFits, Fits}
+use Rattle.volume.specs.Formed.{Formed}
 use Rattle.volume.proofs.RowBytes.{node-row, entry-row, chunk-row}
 use Rattle.volume.proofs.Laid.{rows-formed, Spaced, spaced, nodes-counted, entries-counted, chunks-counted, Told, told-laid, shown-laid}
-use Rattle.allocator.proofs.Laid as AllocatorLaid
+use Rattle.allocator.proofs.Laid.{WordsFit}
 
 module _ (v : Volume) (f : Fits v) where
   -- a volume that fits, laid out, is framed
@@ -57,7 +58,7 @@ spaced-allocator v f a t w = record { nodes = f .nodes; entries = f .entries; ch
 -- ---- one table changed: the half still fits
 
 module _ (a : Names) (f : NamesFits a) where
-  pub fits-next : (x : ℕ) → x < 2 ^ 64 → NamesFits (withNext x a)
+  pub fits-next : (x : ℕ) → x < 2 ^ 64 → NamesFits (withNextNode x a)
   fits-next x h = record { nodeRoom = f .nodeRoom; entryRoom = f .entryRoom; nextNode = h; nodes = f .nodes; entries = f .entries; nodeRows = f .nodeRows; entryRows = f .entryRows }
 
   pub fits-nodes : (rs : List NodeRecord) → length rs ≤ a .nodeRoom → Each NodeFits rs → NamesFits (withNodes rs a)
@@ -67,7 +68,7 @@ module _ (a : Names) (f : NamesFits a) where
   fits-entries rs h g = record { nodeRoom = f .nodeRoom; entryRoom = f .entryRoom; nextNode = f .nextNode; nodes = f .nodes; entries = h; nodeRows = f .nodeRows; entryRows = g }
 
 module _ (s : Store) (f : StoreFits s) where
-  pub fits-allocator : (a : Allocator) → a .mark ≡ marker → AllocatorLaid.Fits a → length (a .words) ≡ s .chunkRoom → acceptedSize (a .chunkSize) ≡ true → a .freeCount ≤ s .chunkRoom → StoreFits (withAllocator a s)
+  pub fits-allocator : (a : Allocator) → a .mark ≡ marker → WordsFit a → length (a .words) ≡ s .chunkRoom → acceptedSize (a .chunkSize) ≡ true → a .freeCount ≤ s .chunkRoom → StoreFits (withAllocator a s)
   fits-allocator a m g w z c = record { chunkRoom = f .chunkRoom; long = f .long; chunks = f .chunks; mark = m; twelve = g .twelve; words = w; small = g .small; size = z; free = c; chunkRows = f .chunkRows }
 
   pub fits-chunks : (rs : List ChunkRow) → length rs ≤ s .chunkRoom → Each ChunkFits rs → StoreFits (withChunks rs s)

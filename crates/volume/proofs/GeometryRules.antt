@@ -5,14 +5,16 @@ use mathlib.Core.Bool.{Bool, true, false}
 use Prim.Native.Nat.{ℕ, _+_, _≤_}
 use native.Mathlib.Omega.{arith}
 use denote.Enum.Declared.{tagOf}
-use Rattle.words.proofs.Rules.{Says, says-itself, says-opposite, says-both, says-leb, says-map, says-true, false-says, call-yes, pick-true, pick-false}
+use Rattle.words.specs.Rules.{Says}
+use Rattle.words.proofs.Rules.{says-itself, says-opposite, says-both, says-leb, says-map, says-true, false-says, call-yes, pick-true, pick-false}
 use Rattle.types.specs.Sizes.{mostRows, leastArea}
 use Rattle.volume.specs.declared.Layout.{Layout}
 use Rattle.volume.specs.declared.Place.{Place}
 use Rattle.volume.specs.declared.Place.the-variants.{At, Nowhere}
 use Rattle.volume.specs.Volume.{atBytes}
 use Rattle.volume.specs.Framed.{Placed}
-use Rattle.volume.specs.Geometry.{roomy, placed, placeIf}
+use Rattle.volume.specs.Geometry.{roomy, placed}
+use Rattle.volume.specs.Layouts.{placeIf}
 use Rattle.volume.proofs.Place.{the-type}
 
 pub says-roomy : (n : ℕ) → Says ((1 ≤ n) × (n ≤ mostRows)) (roomy n)

@@ -2,17 +2,18 @@
 -- Assumes nothing.
 use mathlib.Core.Path.{_≡_, refl, sym}
 use mathlib.Core.Logic.{_⊎_, inl, inr}
-use Prim.Native.Nat.{ℕ, _≤_}
+use Prim.Native.Nat.{ℕ, zero, suc, _≤_}
 use native.Mathlib.Omega.{arith}
 use borrow.Author.Tests.{ne-eqb}
-use Rattle.words.specs.Rules.{pick}
+use Rattle.words.specs.Rules.{pick, Says, holds, fails}
 use Rattle.types.specs.declared.FileType.{FileType}
 use Rattle.types.specs.declared.FileType.the-variants.{Directory, RegularFile, SymbolicLink}
 use Rattle.types.specs.declared.Limit.{Limit}
 use Rattle.types.specs.declared.Limit.the-variants.{Unlimited, AtMost}
+use Rattle.volume.specs.declared.kinds.Kind.{Kind}
 use Rattle.volume.specs.declared.kinds.Kind.the-variants.{Known, Unknown}
 use Rattle.types.specs.Nodes.{limitWord}
-use Rattle.volume.specs.Kinds.{kindOf, kindByte, limitOf, limitFlag}
+use Rattle.volume.specs.Kinds.{kindOf, isKnown, kindByte, limitOf, limitFlag}
 
 -- ---- the case that a byte means
 
@@ -25,6 +26,18 @@ is-known SymbolicLink e = rw e
 pub is-unknown : (b : ℕ) → (b ≡ 0 → ⊥) → (b ≡ 1 → ⊥) → (b ≡ 2 → ⊥) → Unknown ≡ kindOf b
 unfolding kindOf pick
 is-unknown b p q r = rw (ne-eqb b 0 p, ne-eqb b 1 q, ne-eqb b 2 r)
+
+-- types 0 to 2 are known
+pub says-known : (b : ℕ) → Says (b ≤ 2) (isKnown (kindOf b))
+unfolding kindOf pick
+says-known zero = holds (omega arith)
+says-known (suc zero) = holds (omega arith)
+says-known (suc (suc zero)) = holds (omega arith)
+says-known (suc (suc (suc b))) = rw (← is-unknown (suc (suc (suc b))) (λ e. omega arith) (λ e. omega arith) (λ e. omega arith)) (fails (λ h. omega arith))
+
+-- the test of a byte that was read, by the case that it means
+pub known-as : {n b : ℕ} {kind case : Kind} → b ≡ n → kind ≡ kindOf b → kind ≡ case → isKnown (kindOf n) ≡ isKnown case
+known-as read means is = rw (← read, ← means, is)
 
 pub no-limit : {flag : ℕ} (word : ℕ) → flag ≡ 0 → Unlimited ≡ limitOf flag word
 unfolding limitOf pick

@@ -16,12 +16,13 @@ use Rattle.words.proofs.Tables.{length-layAll, length-area, length-table, num-w
 use Rattle.allocator.specs.Allocator.{marker, layAllocator, readAllocator, readWord}
 use Rattle.volume.specs.Header.{atChunkRoom, atChunkSize, atChunksUsed, atEntriesUsed, atEntryRoom, atForm, atFreeCount, atMarker, atNextNode, atNextPtr, atNodeRoom, atNodesUsed}
 use Rattle.volume.specs.Rows.{layNode, readNode, layEntry, readEntry, layChunk, readChunk, chunkRow, entryRow, nodeRow}
-use Rattle.volume.specs.Volume.{Volume, form, heads, areas, laid, shown, atNodes, atEntries, atChunks, atBytes, withNodes, withEntries, withChunks, onNames, onStore}
-use Rattle.volume.specs.Framed.{RowsFormed, Framed, Fits, Formed}
+use Rattle.volume.specs.Volume.{Volume, form, heads, areas, laid, wordsIn, shown, atNodes, atEntries, atChunks, atBytes, withNodes, withEntries, withChunks, onNames, onStore}
+use Rattle.volume.specs.Framed.{RowsFormed, Framed, Fits}
+use Rattle.volume.specs.Formed.{Formed}
 use Rattle.words.proofs.Pieces.{Read, words-again, area-again, each-rows}
 use Rattle.words.proofs.Areas.{row-joined, unused-joined, Counted}
 use Rattle.volume.proofs.RowBytes.{Row, node-row, entry-row, chunk-row}
-use Rattle.allocator.specs.Words as AllocatorWords
+use Rattle.allocator.specs.Words.{WordsFormed}
 use Rattle.allocator.proofs.Laid as AllocatorLaid
 
 -- ---- a table of rows of one kind, for all three
@@ -155,7 +156,7 @@ module _ (v : Volume) (f : Fits v) where
       num-words (heads v) (joined (drop 1 (areas v))) i (omega arith, (omega arith, (omega arith, (omega arith, (omega arith, (omega arith, (omega arith, (n .nextNode, tt)))))))) h
 
   -- its allocator fits
-  allocator-fits : AllocatorLaid.Fits (v .store .allocator)
+  allocator-fits : AllocatorLaid.WordsFit (v .store .allocator)
   allocator-fits = record { twelve = f .store .twelve; small = f .store .small }
 
   -- a word of the allocator's part
@@ -198,11 +199,11 @@ unfolding part
 behind l at n to e p q = rw (p, q, e, ← drop-drop n at l, take-append-drop n (drop at l))
 
 -- the allocator's part of what is framed is in the allocator's form
-pub allocator-formed : (l : List ℕ) → Framed l → AllocatorWords.Formed (part l 64 (128 + 8 * word l atChunkRoom))
+pub allocator-formed : (l : List ℕ) → Framed l → WordsFormed (wordsIn l)
 allocator-formed l f =
     let c = word l atChunkRoom in
-    let n : length (part l 64 (128 + 8 * c)) ≡ 128 + 8 * c = length-part l 64 (128 + 8 * c) (omega (arith, f .headed .placed .long)) in
-    let k : word (part l 64 (128 + 8 * c)) 16 ≡ word l atFreeCount = num-part 8 l 64 (128 + 8 * c) 16 (omega arith) in
+    let n : length (wordsIn l) ≡ 128 + 8 * c = length-part l 64 (128 + 8 * c) (omega (arith, f .headed .placed .long)) in
+    let k : word (wordsIn l) 16 ≡ word l atFreeCount = num-part 8 l 64 (128 + 8 * c) 16 (omega arith) in
     record { least = rw n (omega arith); whole = rw n (omega arith); count = rw (n, k) (omega (arith, f .marked .free)) }
 
 module _ (l : List ℕ) (y : Bytes l) (f : Framed l) where
@@ -228,7 +229,7 @@ module _ (l : List ℕ) (y : Bytes l) (f : Framed l) where
       let h = f .headed in
       let z = h .placed .long in
       behind l 0 64 64 refl heads-again
-      (behind l 64 (128 + 8 * C) (atNodes C) (omega arith) (AllocatorLaid.laid-again (part l 64 (128 + 8 * C)) (bytes-part l 64 (128 + 8 * C) y (omega arith)) (allocator-formed l f))
+      (behind l 64 (128 + 8 * C) (atNodes C) (omega arith) (AllocatorLaid.laid-again (wordsIn l) (bytes-part l 64 (128 + 8 * C) y (omega arith)) (allocator-formed l f))
       (behind l (atNodes C) (nodeRow * N) (atEntries N C) refl (rows-again node-row l y (atNodes C) (word l atNodesUsed) N (h .nodes) (omega arith) (f .nodes))
       (behind l (atEntries N C) (entryRow * E) (atChunks N E C) refl (rows-again entry-row l y (atEntries N C) (word l atEntriesUsed) E (h .entries) (omega arith) (f .entries))
       (behind l (atChunks N E C) (chunkRow * C) (atBytes N E C) refl (rows-again chunk-row l y (atChunks N E C) (word l atChunksUsed) C (h .chunks) (omega arith) (f .chunks)) (append-nil (drop (atBytes N E C) l))))))
@@ -239,8 +240,7 @@ module _ (l : List ℕ) (y : Bytes l) (f : Framed l) where
   fits-shown =
       let h = f .headed in
       let z = h .placed .long in
-      let p = part l 64 (128 + 8 * C) in
-      let a = AllocatorLaid.read-fits p (bytes-part l 64 (128 + 8 * C) y (omega arith)) (allocator-formed l f) in
+      let a = AllocatorLaid.read-fits (wordsIn l) (bytes-part l 64 (128 + 8 * C) y (omega arith)) (allocator-formed l f) in
       record {
         names = record {
           nodeRoom = h .placed .nodes;
@@ -257,7 +257,7 @@ module _ (l : List ℕ) (y : Bytes l) (f : Framed l) where
           chunks = rw length-table (h .chunks);
           mark = unfold readAllocator in rw (num-part 8 l 64 (128 + 8 * C) 0 (omega arith)) (f .marked .mark);
           twelve = a .twelve;
-          words = unfold readAllocator in length-table readWord 8 p 128 (length p / 8 - 16) ∙ omega (arith, length-part l 64 (128 + 8 * C) (omega arith));
+          words = unfold readAllocator in length-table readWord 8 (wordsIn l) 128 (length (wordsIn l) / 8 - 16) ∙ omega (arith, length-part l 64 (128 + 8 * C) (omega arith));
           small = a .small;
           size = unfold readAllocator in rw (num-part 8 l 64 (128 + 8 * C) 8 (omega arith)) (f .marked .size);
           free = unfold readAllocator in rw (num-part 8 l 64 (128 + 8 * C) 16 (omega arith)) (f .marked .free);

@@ -10,3 +10,4 @@ pub mod Rounding
 pub mod FreshLaid
 pub mod FreshGood
 pub mod RowTests
+pub mod SoundWords

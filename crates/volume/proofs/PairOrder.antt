@@ -6,8 +6,8 @@ use mathlib.Core.Logic.{inl, inr}
 use Prim.Native.Nat.{ℕ, _<_}
 use native.Mathlib.Omega.{arith}
 use lib.Dec.{ltb}
-use Rattle.words.specs.Rules.{pick}
-use Rattle.words.proofs.Rules.{Says, holds, fails, says-false, false-says, says-map, says-eqb, says-ltb}
+use Rattle.words.specs.Rules.{pick, Says, holds, fails}
+use Rattle.words.proofs.Rules.{says-false, false-says, says-map, says-eqb, says-ltb}
 use Rattle.volume.specs.Search.{PairBefore, pairBefore}
 
 -- what the test says

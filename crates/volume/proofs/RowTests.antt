@@ -9,13 +9,14 @@ use native.Mathlib.Omega.{arith}
 use lib.Dec.{eqb, leb}
 use lib.ListN.{length}
 use Rattle.words.specs.Bytes.{word, num}
-use Rattle.words.specs.Rules.{pick, both}
-use Rattle.words.proofs.Rules.{Says, holds, fails, says-map, says-both, says-and, says-eqb, says-leb}
+use Rattle.words.specs.Rules.{pick, both, Says, holds, fails}
+use Rattle.words.proofs.Rules.{says-map, says-both, says-and, says-eqb, says-leb}
 use Rattle.words.proofs.Blocks.{says-zeros}
 use Rattle.types.specs.Sizes.{mostSize, mostName, nameRoom}
 use Rattle.volume.specs.Rows.{entryRow, nodeRow}
 use Rattle.volume.specs.Framed.{NodeFormed, EntryFormed}
 use Rattle.volume.specs.RowTests.{limitFormed, nodeFormed, entryFormed}
+use Rattle.volume.proofs.KindBytes.{says-known}
 
 pub says-limit : (flag n : ℕ) → Says (((flag ≡ 0) × (n ≡ 0)) ⊎ ((flag ≡ 1) × (n ≤ mostSize))) (limitFormed flag n)
 unfolding limitFormed pick
@@ -38,7 +39,7 @@ module _ (l : List ℕ) (at : ℕ) where
   unfolding nodeFormed
   says-node h =
       says-map (λ p. record { kind = p .0; limit = p .1 .0; spare = p .1 .1 }) (λ f. (f .kind, (f .limit, f .spare)))
-      (says-both (says-leb (num 1 l (at + 8)) 2) (says-both (says-limit (num 1 l (at + 9)) (word l (at + 32))) (says-zeros l (at + 10) 6 (omega arith))))
+      (says-both (says-known (num 1 l (at + 8))) (says-both (says-limit (num 1 l (at + 9)) (word l (at + 32))) (says-zeros l (at + 10) 6 (omega arith))))
 
   pub says-entry : at + entryRow ≤ length l → Says (EntryFormed l at) (entryFormed l at)
   unfolding entryFormed

@@ -1,4 +1,4 @@
--- The form of the bytes: what has to hold so that the tables, laid out again, are the bytes. The scope's "The volume", sentence by sentence.
+-- Believed: the form of the bytes: what has to hold so that the tables, laid out again, are the bytes. The scope's "The volume", sentence by sentence.
 -- Assumes nothing.
 use mathlib.Core.Path.{_≡_}
 use mathlib.Core.Bool.{true}
@@ -16,7 +16,7 @@ use Rattle.allocator.specs.Allocator.{marker, wordsOf}
 use Rattle.volume.specs.Header.{atChunkRoom, atChunkSize, atChunksUsed, atEntriesUsed, atEntryRoom, atForm, atFreeCount, atMarker, atNodeRoom, atNodesUsed}
 use Rattle.volume.specs.declared.ChunkRow.{ChunkRow}
 use Rattle.volume.specs.Rows.{nodeRow, entryRow, chunkRow, Entry}
-use Rattle.volume.specs.Volume.{Names, Store, Volume, form, shown, laid, atNodes, atEntries, atChunks, atBytes}
+use Rattle.volume.specs.Volume.{Names, Store, Volume, form, atNodes, atEntries, atChunks, atBytes}
 
 -- N, E and C are 1 to 4,096, and the length is at least 65,728 + 40N + 280E + 32C
 pub record Placed (n e c size : ℕ) : Type 0 where
@@ -107,8 +107,3 @@ pub record StoreFits (s : Store) : Type 0 where
 pub record Fits (v : Volume) : Type 0 where
   pub names : NamesFits (v .names)
   pub store : StoreFits (v .store)
-
--- bytes that are a volume laid out
-pub record Formed (l : List ℕ) : Type 0 where
-  pub same : laid (shown l) ≡ l
-  pub fits : Fits (shown l)

@@ -1,4 +1,4 @@
--- New volume: all zero but the header, the marker, the chunk size, and node 0, a directory with links 1; next node 1.
+-- Believed: new volume: all zero but the header, the marker, the chunk size, and node 0, a directory with links 1; next node 1.
 -- Assumes nothing.
 use Prim.Native.Nat.{ℕ, _-_}
 use mathlib.Core.List.{List, [], _∷_}

@@ -1,34 +1,14 @@
--- Where each area starts, for any numbers that a header may hold.
+-- Believed: which geometry a memory of so many bytes can have: N, E and C are 1 to 4,096, and the length is at least 65,728 + 40N + 280E + 32C.
 -- Assumes nothing.
 use Prim.Native.Nat.{ℕ, _+_}
 use mathlib.Core.Bool.{Bool}
-use mathlib.Core.List.{List}
 use lib.Dec.{leb}
-use Rattle.words.specs.Bytes.{word}
-use Rattle.words.specs.Rules.{pick, both}
+use Rattle.words.specs.Rules.{both}
 use Rattle.types.specs.Sizes.{mostRows, leastArea}
-use Rattle.volume.specs.Header.{atChunkRoom, atEntryRoom, atNodeRoom}
-use Rattle.volume.specs.declared.Layout.{Layout}
-use Rattle.volume.specs.declared.Place.{Place}
-use Rattle.volume.specs.declared.Place.the-variants.{At, Nowhere}
-use Rattle.volume.specs.Volume.{atNodes, atEntries, atChunks, atBytes}
+use Rattle.volume.specs.Volume.{atBytes}
 
 unfoldable pub roomy : ℕ → Bool
 roomy n = both (leb 1 n) (leb n mostRows)
 
-abbrev pub layoutOf : ℕ → ℕ → ℕ → Layout
-layoutOf n e c = record { nodes = atNodes c; entries = atEntries n c; chunks = atChunks n e c; area = atBytes n e c }
-
 unfoldable pub placed : ℕ → ℕ → ℕ → ℕ → Bool
 placed n e c size = both (roomy n) (both (roomy e) (both (roomy c) (leb (atBytes n e c + leastArea) size)))
-
--- where the areas start, if a test passes
-unfoldable pub placeIf : Bool → Layout → Place
-placeIf b y = pick b (At y) Nowhere
-
-abbrev pub placeOf : ℕ → ℕ → ℕ → ℕ → Place
-placeOf n e c size = placeIf (placed n e c size) (layoutOf n e c)
-
--- where a header says that the areas start
-abbrev pub layoutIn : List ℕ → Layout
-layoutIn l = layoutOf (word l atNodeRoom) (word l atEntryRoom) (word l atChunkRoom)

@@ -1,4 +1,4 @@
--- Where each number of the header stands, and the first ones of the allocator behind it.
+-- Believed: where each number of the header stands, and the first ones of the allocator behind it.
 -- Assumes nothing.
 use Prim.Native.Nat.{ℕ}
 

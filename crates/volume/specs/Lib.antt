@@ -3,7 +3,9 @@ pub mod Rows
 pub mod Header
 pub mod Volume
 pub mod Framed
+pub mod Formed
 pub mod Geometry
+pub mod Layouts
 pub mod Search
 pub mod Fresh
 pub mod Sound

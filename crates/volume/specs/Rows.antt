@@ -1,4 +1,4 @@
--- The rows of the three tables: read off their bytes, and laid out again.
+-- Believed: the rows of the three tables: read off their bytes, and laid out again.
 -- Assumes nothing.
 use Prim.Native.Nat.{ℕ}
 use mathlib.Core.List.{List, [], _∷_}
@@ -25,6 +25,10 @@ entryRow = 280
 abbrev pub chunkRow : ℕ
 chunkRow = 24
 
+-- where the name starts in an entry's row
+abbrev pub nameStart : ℕ
+nameStart = 24
+
 pub record Entry : Type 0 where
   pub parent : ℕ
   pub node : ℕ
@@ -50,7 +54,7 @@ unfoldable pub layEntry : Entry → List ℕ
 layEntry e = joined (spell 8 (e .parent) ∷ spell 8 (e .node) ∷ spell 4 (e .index) ∷ spell 4 (length (e .name)) ∷ padded nameRoom (e .name) ∷ [])
 
 unfoldable pub readEntry : List ℕ → Entry
-readEntry b = record { parent = word b 0; node = word b 8; index = num 4 b 16; name = part b 24 (num 4 b 20) }
+readEntry b = record { parent = word b 0; node = word b 8; index = num 4 b 16; name = part b nameStart (num 4 b 20) }
 
 unfoldable pub layChunk : ChunkRow → List ℕ
 layChunk r = joined (spell 8 (r .node) ∷ spell 8 (r .index) ∷ spell 8 (r .pointer) ∷ [])

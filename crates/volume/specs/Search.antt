@@ -1,4 +1,4 @@
--- The order of pairs, and which rows stand before a key.
+-- Believed: the order of pairs, and which rows stand before a key.
 -- Assumes nothing.
 use mathlib.Core.Path.{_≡_}
 use mathlib.Core.Bool.{Bool}

@@ -1,4 +1,4 @@
--- Sound, in the scope's words and order: the frame, and what the tables say of each other.
+-- Believed: sound, in the scope's words and order: the frame, and what the tables say of each other.
 -- Assumes nothing.
 use mathlib.Core.Path.{_≡_}
 use mathlib.Core.Bool.{true}

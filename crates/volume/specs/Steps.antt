@@ -1,4 +1,4 @@
--- What a call makes of a volume: its answer, and the volume behind it. And one row of the node table changed.
+-- Believed: what a call makes of a volume: its answer, and the volume behind it. And one row of the node table changed.
 -- Assumes nothing.
 use Prim.Native.Nat.{ℕ}
 use mathlib.Core.List.{List, map}
@@ -27,3 +27,20 @@ changed n f rs = map (λ r. pick (eqb (r .node) n) (f r) r) rs
 
 abbrev pub withNode : ℕ → (NodeRecord → NodeRecord) → Names → Names
 withNode n f a = withNodes (changed n f (a .nodes)) a
+
+-- ---- the same of nodes and entries alone
+
+pub record NamesStep : Type 0 where
+  pub answer : Answer
+  pub after : Names
+
+-- a refusal
+abbrev pub remain : Error → Names → NamesStep
+remain e a = record { answer = Refused e; after = a }
+
+abbrev pub turn : ℕ → Names → NamesStep
+turn n a = record { answer = Done n; after = a }
+
+-- lifted to a volume: its chunks stay
+abbrev pub nameStep : (Names → NamesStep) → Volume → Step
+nameStep call v = record { answer = call (v .names) .answer; after = record { names = call (v .names) .after; store = v .store } }

@@ -1,4 +1,4 @@
--- The volume as its tables, laid out area after area, and read off its bytes.
+-- Believed: the volume as its tables, laid out area after area, and read off its bytes.
 -- Assumes nothing.
 use Prim.Native.Nat.{ℕ, _+_, _*_}
 use mathlib.Core.List.{List, [], _∷_}
@@ -70,6 +70,10 @@ atChunks n e c = atEntries n c + entryRow * e
 abbrev pub atBytes : ℕ → ℕ → ℕ → ℕ
 atBytes n e c = atChunks n e c + chunkRow * c
 
+-- the allocator's words
+abbrev pub wordsIn : List ℕ → List ℕ
+wordsIn l = part l atAllocator (allocatorSize (word l atChunkRoom))
+
 unfoldable pub shown : List ℕ → Volume
 shown l = record {
   names = record {
@@ -81,7 +85,7 @@ shown l = record {
   };
   store = record {
     chunkRoom = word l atChunkRoom;
-    allocator = readAllocator (part l atAllocator (allocatorSize (word l atChunkRoom)));
+    allocator = readAllocator (wordsIn l);
     chunks = table readChunk chunkRow l (atChunks (word l atNodeRoom) (word l atEntryRoom) (word l atChunkRoom)) (word l atChunksUsed);
     bytes = drop (atBytes (word l atNodeRoom) (word l atEntryRoom) (word l atChunkRoom)) l;
   };
@@ -89,8 +93,8 @@ shown l = record {
 
 -- ---- one field of a half changed
 
-abbrev pub withNext : ℕ → Names → Names
-withNext n a = record { nodeRoom = a .nodeRoom; entryRoom = a .entryRoom; nextNode = n; nodes = a .nodes; entries = a .entries }
+abbrev pub withNextNode : ℕ → Names → Names
+withNextNode n a = record { nodeRoom = a .nodeRoom; entryRoom = a .entryRoom; nextNode = n; nodes = a .nodes; entries = a .entries }
 
 abbrev pub withNodes : List NodeRecord → Names → Names
 withNodes rs a = record { nodeRoom = a .nodeRoom; entryRoom = a .entryRoom; nextNode = a .nextNode; nodes = rs; entries = a .entries }

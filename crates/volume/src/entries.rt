@@ -5,7 +5,8 @@ ghost use mathlib.Core.Path.{_≡_};
 ghost use Prim.Native.Nat.{_+_, _*_, _≤_, _<_};
 ghost use lib.ListN.{length};
 ghost use Rattle.words.specs.Bytes.{part, over, num};
-ghost use Rattle.words.specs.Tables.{table, lead, Falls};
+ghost use Rattle.words.specs.Tables.{table, lead};
+ghost use Rattle.words.specs.Tests.{Falls};
 ghost use Rattle.types.specs.Sizes.{nameRoom};
 ghost use Rattle.volume.specs.Rows.{layEntry, readEntry, entryRow};
 ghost use Rattle.volume.specs.RowTests.{entryFormed};
@@ -18,7 +19,7 @@ const INDEX: usize = 16;
 
 const NAME_SIZE: usize = 20;
 
-const NAME: usize = 24;
+pub const NAME: usize = 24;
 
 // The parent in the row that starts at index at.
 pub fn entry_parent(volume: &[u8], at: usize) -> u64

@@ -10,7 +10,8 @@ use crate::Place;
 ghost use mathlib.Core.Path.{_≡_};
 ghost use Prim.Native.Nat.{_≤_};
 ghost use Rattle.types.specs.Sizes.{mostRows};
-ghost use Rattle.volume.specs.Geometry.{roomy, layoutOf, layoutIn, placeOf};
+ghost use Rattle.volume.specs.Geometry.{roomy};
+ghost use Rattle.volume.specs.Layouts.{layoutOf, layoutIn, placeOf};
 ghost use Rattle.volume.specs.Framed.{Headed};
 
 // The node rows stand behind the header's words, the allocator's first words, and a word for each chunk.

@@ -11,6 +11,7 @@ pub use chunks::read_chunk;
 pub use chunks::round_up;
 pub use chunks::seek_chunk;
 pub use chunks::write_chunk;
+pub use entries::NAME;
 pub use entries::entry_formed;
 pub use entries::entry_index;
 pub use entries::entry_name;

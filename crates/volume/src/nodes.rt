@@ -11,7 +11,8 @@ ghost use mathlib.Core.Path.{_≡_};
 ghost use Prim.Native.Nat.{_+_, _*_, _≤_};
 ghost use lib.ListN.{length};
 ghost use Rattle.words.specs.Bytes.{part, over};
-ghost use Rattle.words.specs.Tables.{table, lead, Falls};
+ghost use Rattle.words.specs.Tables.{table, lead};
+ghost use Rattle.words.specs.Tests.{Falls};
 ghost use Rattle.volume.specs.Rows.{kindOr, layNode, readNode, nodeRow};
 ghost use Rattle.volume.specs.RowTests.{limitFormed, nodeFormed};
 ghost use Rattle.volume.specs.Search.{nodeUnder};
@@ -29,9 +30,7 @@ const SIZE: usize = 24;
 
 const LIMIT: usize = 32;
 
-// The greatest type byte, and what the flag means.
-const MOST_KIND: u64 = 2;
-
+// What the flag means.
 const NO_LIMIT: u64 = 0;
 
 const LIMITED: u64 = 1;
@@ -120,9 +119,11 @@ pub fn node_formed(volume: &[u8], at: usize) -> bool
     requires { ⌜ at + nodeRow ≤ length (now volume) ⌝ }
     ensures { λ r. ⌜ r ≡ nodeFormed (now (volume .entry)) at ⌝ }
 {
-    if MOST_KIND < words::get8(volume, at + KIND) {
+    let byte = words::get8(volume, at + KIND) as u8;
+    let kind = kind_of(byte);
+    let Kind::Known(_) = kind else {
         return false;
-    }
+    };
     if !limit_formed(
         words::get8(volume, at + FLAG),
         words::get64(volume, at + LIMIT),

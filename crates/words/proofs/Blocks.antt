@@ -11,11 +11,12 @@ use lib.Dec.{eqb}
 use borrow.Author.Tests.{eq-eqb, ne-eqb}
 use lib.ListN.{length, take, drop, getD}
 use lib.Seq.{take-add, take-all, take-suc, getD-drop}
-use Rattle.words.specs.Bytes.{part, zeros, value, num, Bytes}
-use Rattle.words.specs.Rules.{both, same, allZero}
+use Rattle.words.specs.Bytes.{part, zeros, littleEndian, num, Bytes}
+use Rattle.words.specs.Rules.{both, same, Says, holds, fails}
+use Rattle.words.specs.Tests.{allZero}
 use Rattle.words.proofs.Parts.{cut, part-add, length-part}
 use Rattle.words.proofs.Numbers.{spell-num, num-one}
-use Rattle.words.proofs.Rules.{Says, holds, fails, says-eqb, says-both, says-map, says-true, true-says}
+use Rattle.words.proofs.Rules.{says-eqb, says-both, says-map, says-true, true-says}
 
 -- ---- same
 
@@ -100,10 +101,10 @@ unfolding both
 zero-sum zero y = rw zero-add
 zero-sum (suc x) y = rw (ne-eqb (suc x + y) 0 (λ e. omega arith), ne-eqb (suc x) 0 (λ e. omega arith))
 
-zero-value : (l : List ℕ) → eqb (value l) 0 ≡ allZero l
-unfolding value allZero
+zero-value : (l : List ℕ) → eqb (littleEndian l) 0 ≡ allZero l
+unfolding littleEndian allZero
 zero-value [] = refl
-zero-value (x ∷ l) = zero-sum x (256 * value l) ∙ ap (both (eqb x 0)) (scaled (value l) ∙ zero-value l)
+zero-value (x ∷ l) = zero-sum x (256 * littleEndian l) ∙ ap (both (eqb x 0)) (scaled (littleEndian l) ∙ zero-value l)
   where
     scaled : (n : ℕ) → eqb (256 * n) 0 ≡ eqb n 0
     scaled zero = refl

@@ -10,7 +10,8 @@ use native.Mathlib.Omega.{arith}
 use lib.Dec.{eqb}
 use lib.ListN.{length}
 use borrow.Author.Tests.{eq-eqb, ne-eqb}
-use Rattle.words.specs.Rules.{bit, tally, times, count}
+use Rattle.words.specs.Rules.{bit, times, count}
+use Rattle.words.specs.Tests.{tally}
 use Rattle.words.specs.Tables.{Each}
 
 pub bit-same : (p : ℕ) → bit (eqb p p) ≡ 1
@@ -91,7 +92,7 @@ unfolding times count
 count-map f p [] = refl
 count-map f p (r ∷ rs) = ap (λ (k : ℕ). bit (eqb (f r) p) + k) (count-map f p rs)
 
--- none of n places passes, or one does
+-- none of n places passes, or one does, or two do
 pub tally-none : (f : ℕ → Bool) (n : ℕ) → ((i : ℕ) → i < n → f i ≡ false) → tally n f ≡ 0
 unfolding tally bit
 tally-none f zero h = refl
@@ -105,3 +106,12 @@ tally-some f (suc n) i h e = here (decLt i n) (λ b. tally-some f n i b e)
     here : Dec (i < n) → (i < n → 1 ≤ tally n f) → 1 ≤ tally n f + bit (f n)
     here (yes b) k = omega (arith, k b)
     here (no b) k = let q : i ≡ n = omega arith in rw (← q, e) (omega arith)
+
+pub tally-two : (f : ℕ → Bool) (n i j : ℕ) → i < j → j < n → f i ≡ true → f j ≡ true → 2 ≤ tally n f
+unfolding tally bit
+tally-two f zero i j h k p q = absurd (not-suc-le-zero k)
+tally-two f (suc n) i j h k p q = here (decLt j n) (λ b. tally-two f n i j h b p q)
+  where
+    here : Dec (j < n) → (j < n → 2 ≤ tally n f) → 2 ≤ tally n f + bit (f n)
+    here (yes b) g = omega (arith, g b)
+    here (no b) g = let e : j ≡ n = omega arith in rw (← e, q) (omega (arith, tally-some f j i h p))

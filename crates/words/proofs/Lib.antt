@@ -16,3 +16,4 @@ pub mod FoundRows
 pub mod WriteLoops
 pub mod Only
 pub mod Runs
+pub mod Middle

@@ -1,4 +1,4 @@
--- Laws of `value`, `spell` and `num`; what is read of bytes is what is laid out again.
+-- Laws of `littleEndian`, `spell` and `num`; what is read of bytes is what is laid out again.
 -- Assumes nothing.
 use mathlib.Core.Path.{_≡_, refl, sym, ap, _∙_}
 use mathlib.Core.List.{List, [], _∷_, _++_}
@@ -8,13 +8,13 @@ use native.Mathlib.Omega.{arith}
 use native.Mathlib.Decide.{decLt}
 use lib.ListN.{length, take, drop, getD, length-take, length-drop, List·getD-eq-default}
 use lib.Seq.{getD-take, getD-drop, drop-cons}
-use Rattle.words.specs.Bytes.{part, over, value, spell, num, Bytes}
+use Rattle.words.specs.Bytes.{part, over, littleEndian, spell, num, Bytes}
 use Rattle.words.proofs.Parts.{length-part, length-over, part-add, part-mid, part-over-before, part-over-after, two, part-part}
 
-pub value-append : (a b : List ℕ) → value (a ++ b) ≡ value a + 256 ^ length a * value b
-unfolding value
-value-append [] b = omega arith
-value-append (x ∷ a) b = rw (value-append a b, pow-succ', mul-assoc, mul-add) (omega arith)
+pub little-endian-append : (a b : List ℕ) → littleEndian (a ++ b) ≡ littleEndian a + 256 ^ length a * littleEndian b
+unfolding littleEndian
+little-endian-append [] b = omega arith
+little-endian-append (x ∷ a) b = rw (little-endian-append a b, pow-succ', mul-assoc, mul-add) (omega arith)
 
 pub length-spell : (n x : ℕ) → length (spell n x) ≡ n
 unfolding spell
@@ -26,30 +26,30 @@ unfolding spell
 spell-add zero n x = rw (zero-add, div-one)
 spell-add (suc m) n x = rw (suc-add, spell-add m n (x / 256), div-div-eq-div-mul, pow-succ')
 
-pub value-spell : (n x : ℕ) → x < 256 ^ n → value (spell n x) ≡ x
-unfolding value spell
-value-spell zero x h = omega arith
-value-spell (suc n) x h = rw (value-spell n (x / 256) (omega (arith, pow-succ' 256 n))) (omega arith)
+pub little-endian-spell : (n x : ℕ) → x < 256 ^ n → littleEndian (spell n x) ≡ x
+unfolding littleEndian spell
+little-endian-spell zero x h = omega arith
+little-endian-spell (suc n) x h = rw (little-endian-spell n (x / 256) (omega (arith, pow-succ' 256 n))) (omega arith)
 
 pub num-add : (m n : ℕ) (l : List ℕ) (at : ℕ) → at + m ≤ length l → num (m + n) l at ≡ num m l at + 256 ^ m * num n l (at + m)
 unfolding num
-num-add m n l at h = rw (part-add, value-append, length-part l at m h)
+num-add m n l at h = rw (part-add, little-endian-append, length-part l at m h)
 
 pub num-one : (l : List ℕ) (at : ℕ) → at < length l → num 1 l at ≡ getD l at 0
-unfolding num part value
+unfolding num part littleEndian
 num-one l at h = rw (drop-cons l at 0 h) (omega arith)
 
 pub num-mid : (n : ℕ) (A C : List ℕ) (at x : ℕ) → length A ≡ at → x < 256 ^ n → num n (A ++ (spell n x ++ C)) at ≡ x
 unfolding num
-num-mid n A C at x ha hx = ap value (part-mid A (spell n x) C at n ha (length-spell n x)) ∙ value-spell n x hx
+num-mid n A C at x ha hx = ap littleEndian (part-mid A (spell n x) C at n ha (length-spell n x)) ∙ little-endian-spell n x hx
 
 pub num-over-before : (n : ℕ) (l : List ℕ) (at : ℕ) (bs : List ℕ) (i : ℕ) → at ≤ length l → i + n ≤ at → num n (over l at bs) i ≡ num n l i
 unfolding num
-num-over-before n l at bs i h e = ap value (part-over-before l at bs i n h e)
+num-over-before n l at bs i h e = ap littleEndian (part-over-before l at bs i n h e)
 
 pub num-over-after : (n : ℕ) (l : List ℕ) (at : ℕ) (bs : List ℕ) (i : ℕ) → at + length bs ≤ i → at ≤ length l → num n (over l at bs) i ≡ num n l i
 unfolding num
-num-over-after n l at bs i h e = ap value (part-over-after l at bs i n h e)
+num-over-after n l at bs i h e = ap littleEndian (part-over-after l at bs i n h e)
 
 -- the n bytes of the rest of x right behind its m least
 pub put-add : (i j : ℕ) (l : List ℕ) (at x : ℕ) {m r : List ℕ} → m ≡ over l at (spell i x) → r ≡ over m (at + i) (spell j (x / 256 ^ i)) → at + (i + j) ≤ length l → r ≡ over l at (spell (i + j) x)
@@ -70,7 +70,7 @@ getD-over-after l at bs i h e =
 
 pub num-part : (n : ℕ) (l : List ℕ) (at m i : ℕ) → i + n ≤ m → num n (part l at m) i ≡ num n l (at + i)
 unfolding num
-num-part n l at m i h = ap value (part-part l at m i n h)
+num-part n l at m i h = ap littleEndian (part-part l at m i n h)
 
 -- ---- bytes: what is read is what is laid out again
 
@@ -89,13 +89,13 @@ pub bytes-part : (l : List ℕ) (at n : ℕ) → Bytes l → at + n ≤ length l
 unfolding Bytes
 bytes-part l at n h k i = bytes-part-of l at n i h k (decLt i n)
 
-pub spell-value : (l : List ℕ) → Bytes l → spell (length l) (value l) ≡ l
-unfolding spell value
+pub spell-value : (l : List ℕ) → Bytes l → spell (length l) (littleEndian l) ≡ l
+unfolding spell littleEndian
 spell-value [] h = refl
 spell-value (x ∷ l) h =
     let b : x < 256 = unfold Bytes in h 0 in
-    let m : (x + 256 * value l) % 256 ≡ x = omega arith in
-    let d : (x + 256 * value l) / 256 ≡ value l = omega arith in
+    let m : (x + 256 * littleEndian l) % 256 ≡ x = omega arith in
+    let d : (x + 256 * littleEndian l) / 256 ≡ littleEndian l = omega arith in
     rw (m, d, spell-value l (bytes-tail x l h))
 
 pub spell-num : (n : ℕ) (l : List ℕ) (at : ℕ) → Bytes l → at + n ≤ length l → spell n (num n l at) ≡ part l at n
@@ -104,13 +104,13 @@ spell-num n l at h k = rw (length-part l at n k) at (spell-value (part l at n) (
 
 -- ---- how large a number is
 
-pub value-below : (l : List ℕ) → Bytes l → value l < 256 ^ length l
-unfolding value
-value-below [] h = omega arith
-value-below (x ∷ l) h =
+pub little-endian-below : (l : List ℕ) → Bytes l → littleEndian l < 256 ^ length l
+unfolding littleEndian
+little-endian-below [] h = omega arith
+little-endian-below (x ∷ l) h =
     let b : x < 256 = unfold Bytes in h 0 in
-    rw pow-succ' (omega (arith, value-below l (bytes-tail x l h)))
+    rw pow-succ' (omega (arith, little-endian-below l (bytes-tail x l h)))
 
 pub num-below : (n : ℕ) (l : List ℕ) (at : ℕ) → Bytes l → at + n ≤ length l → num n l at < 256 ^ n
 unfolding num
-num-below n l at b h = rw (length-part l at n h) at (value-below (part l at n) (bytes-part l at n b h))
+num-below n l at b h = rw (length-part l at n h) at (little-endian-below (part l at n) (bytes-part l at n b h))

@@ -6,10 +6,10 @@ use Prim.Native.Nat.{ℕ, zero, suc, _+_, _-_, _<_}
 use native.Mathlib.Numerals.{add-one}
 use native.Mathlib.Omega.{arith}
 use lib.ListN.{length, getD}
-use Rattle.words.specs.Rules.{upto}
+use Rattle.words.specs.Rules.{upto, Says}
 use Rattle.words.specs.Tables.{Each, Asc}
 use Rattle.words.proofs.Order.{each-at, each-map}
-use Rattle.words.proofs.Rules.{Says, says-map, says-upto}
+use Rattle.words.proofs.Rules.{says-map, says-upto}
 
 -- ---- every place, every row
 

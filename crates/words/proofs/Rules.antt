@@ -12,14 +12,10 @@ use native.Mathlib.Decide.{decLt}
 use lib.Dec.{eqb, ltb, leb}
 use borrow.Author.Tests.{eqb-true, eqb-false, ltb-true, ltb-false, leb-true, leb-false, eq-eqb, ne-eqb, le-leb, lt-leb, not-true, not-false}
 use lib.ListN.{length, getD}
-use Rattle.words.specs.Rules.{pick, both, either, upto, bit, tally, times}
+use Rattle.words.specs.Rules.{Says, holds, fails, pick, both, either, upto, bit, times}
+use Rattle.words.specs.Tests.{tally}
 use Rattle.words.proofs.Joined.{both-false}
 use Rattle.words.proofs.Counting.{bit-most}
-
--- b says whether P holds
-pub data Says (P : Type 0) : Bool → Type 0 where
-  holds : P → Says P true
-  fails : (P → ⊥) → Says P false
 
 -- ---- a choice
 

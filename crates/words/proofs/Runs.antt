@@ -7,7 +7,8 @@ use Prim.Native.Nat.{ℕ, suc, _+_}
 use native.Mathlib.Nat.{zero-add, suc-add}
 use lib.ListN.{take, drop}
 use Rattle.words.specs.Rules.{pick}
-use Rattle.words.specs.Tables.{lead, leadOf, Each, Asc, Falls, only}
+use Rattle.words.specs.Tables.{lead, leadOf, Each, Asc, only}
+use Rattle.words.specs.Tests.{Falls}
 use Rattle.words.proofs.Order.{each-map}
 use Rattle.words.proofs.Only.{rest, each-only}
 

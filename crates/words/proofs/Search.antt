@@ -14,7 +14,8 @@ use lib.Seq.{drop-cons}
 use borrow.Author.Tests.{ne-eqb}
 use Rattle.words.specs.Bytes.{part}
 use Rattle.words.specs.Rules.{pick}
-use Rattle.words.specs.Tables.{Asc, Each, Falls, find, insertAt, lead, leadOf, table}
+use Rattle.words.specs.Tables.{Asc, Each, find, insertAt, lead, leadOf, table}
+use Rattle.words.specs.Tests.{Falls}
 use Rattle.words.proofs.Order.{each-at, each-map}
 use Rattle.words.proofs.Tables.{length-table, table-at}
 
@@ -112,6 +113,35 @@ module _ {R : Type 0} (f hit : R → Bool) (d : R) (not-under : (r : R) → f r 
       go false q z i =
           let a : hit r ≡ false = z (omega arith) in
           rw a (find-none hit rs (each-map (λ b. f r ≡ false → hit r ≡ false → hit b ≡ false) (λ b. hit b ≡ false) (λ b k. k q a) rs (o .0)))
+
+-- ---- rows that lead are passed over
+
+module _ {R : Type 0} (f hit : R → Bool) (missed : (r : R) → f r ≡ true → hit r ≡ false) where
+  pub find-behind : (rs : List R) → find hit rs ≡ find hit (drop (lead f rs) rs)
+  unfolding find lead leadOf pick
+  find-behind [] = refl
+  find-behind (r ∷ rs) = go (f r) refl (find-behind rs)
+    where
+      go : (b : Bool) → f r ≡ b → find hit rs ≡ find hit (drop (lead f rs) rs) → find hit (r ∷ rs) ≡ find hit (drop (leadOf b (lead f rs)) (r ∷ rs))
+      go true e h = rw (missed r e) h
+      go false e h = refl
+
+-- the row behind them does not pass
+pub lead-ends : {R : Type 0} (f : R → Bool) (d : R) (rs : List R) → lead f rs < length rs → f (getD rs (lead f rs) d) ≡ false
+unfolding lead leadOf
+lead-ends f d [] h = absurd (not-suc-le-zero h)
+lead-ends f d (r ∷ rs) h = go (f r) refl h (lead-ends f d rs)
+  where
+    go : (b : Bool) → f r ≡ b → leadOf b (lead f rs) < suc (length rs) → (lead f rs < length rs → f (getD rs (lead f rs) d) ≡ false) → f (getD (r ∷ rs) (leadOf b (lead f rs)) d) ≡ false
+    go true e k i = i (omega arith)
+    go false e k i = e
+
+-- behind a row that fails, none passes
+pub falls-drop : {R : Type 0} (f : R → Bool) (d : R) (rs : List R) (i : ℕ) → Falls f rs → i < length rs → f (getD rs i d) ≡ false → Each (λ r. f r ≡ false) (drop i rs)
+unfolding Falls Each
+falls-drop f d [] i h b e = absurd (not-suc-le-zero b)
+falls-drop f d (r ∷ rs) zero h b e = (e, h .0 e)
+falls-drop f d (r ∷ rs) (suc i) h b e = falls-drop f d rs i (h .1) (omega arith) e
 
 -- ---- from a row on
 

@@ -8,10 +8,10 @@ use native.Mathlib.Numerals.{add-one}
 use native.Mathlib.Omega.{arith}
 use lib.ListN.{length, take, drop, getD, set, length-append, length-drop, length-set, take-append-drop}
 use lib.Seq.{take-append-add, take-at, drop-at, length-take-le, set-split, split-at, take-length, drop-length}
-use Rattle.words.specs.Bytes.{part, over, zeros, padded, value, spell, num}
+use Rattle.words.specs.Bytes.{part, over, zeros, padded, littleEndian, spell, num}
 use Rattle.words.specs.Tables.{layAll, table, insertAt, joined, area, layWords, Each}
 use Rattle.words.proofs.Parts.{length-zeros, zeros-add, over-mid, part-mid, part-in, over-in, part-zero}
-use Rattle.words.proofs.Numbers.{length-spell, value-spell}
+use Rattle.words.proofs.Numbers.{length-spell, little-endian-spell}
 use Rattle.words.proofs.Order.{each-at}
 
 module _ {R : Type 0} (lay : R → List ℕ) where
@@ -134,7 +134,7 @@ module _ {R : Type 0} (lay : R → List ℕ) (s : ℕ) (sized : (r : R) → leng
 -- word i of words
 pub num-words : (ws : List ℕ) (C : List ℕ) (i : ℕ) → Each (λ w. w < 2 ^ 64) ws → i < length ws → num 8 (layWords ws ++ C) (8 * i) ≡ getD ws i 0
 unfolding num
-num-words ws C i h b = ap value (part-lay (spell 8) 8 (length-spell 8) ws C i 0 b) ∙ value-spell 8 (getD ws i 0) (each-at (λ w. w < 2 ^ 64) ws i 0 h b)
+num-words ws C i h b = ap littleEndian (part-lay (spell 8) 8 (length-spell 8) ws C i 0 b) ∙ little-endian-spell 8 (getD ws i 0) (each-at (λ w. w < 2 ^ 64) ws i 0 h b)
 
 pub length-table : {R : Type 0} (read : List ℕ → R) (s : ℕ) (l : List ℕ) (at n : ℕ) → length (table read s l at n) ≡ n
 unfolding table

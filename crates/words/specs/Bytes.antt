@@ -1,4 +1,4 @@
--- Runs of bytes: a part of a list, a list with a part written over, and numbers spelled in bytes, the least byte first.
+-- Believed: runs of bytes: a part of a list, a list with a part written over, and numbers spelled in bytes, the least byte first.
 -- Assumes nothing.
 use Prim.Native.Nat.{ℕ, zero, suc, _+_, _*_, _/_, _%_, _<_}
 use mathlib.Core.List.{List, [], _∷_, _++_}
@@ -20,9 +20,9 @@ unfoldable pub padded : ℕ → List ℕ → List ℕ
 padded n bs = take n (bs ++ zeros n)
 
 -- the number that bytes spell
-unfoldable pub value : List ℕ → ℕ
-value [] = 0
-value (b ∷ bs) = b + 256 * value bs
+unfoldable pub littleEndian : List ℕ → ℕ
+littleEndian [] = 0
+littleEndian (b ∷ bs) = b + 256 * littleEndian bs
 
 -- the n least bytes of x
 unfoldable pub spell : ℕ → ℕ → List ℕ
@@ -31,7 +31,7 @@ spell (suc n) x = (x % 256) ∷ spell n (x / 256)
 
 -- the number that the n bytes from index at spell
 unfoldable pub num : ℕ → List ℕ → ℕ → ℕ
-num n l at = value (part l at n)
+num n l at = littleEndian (part l at n)
 
 -- the u64 at index at
 abbrev pub word : List ℕ → ℕ → ℕ

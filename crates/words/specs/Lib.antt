@@ -1,3 +1,4 @@
 pub mod Bytes
 pub mod Rules
 pub mod Tables
+pub mod Tests

@@ -1,9 +1,18 @@
--- Choices and tests: what a chain of returns decides, what a loop over numbers finds or counts, and two tests of bytes.
+-- Believed: choices and tests: what a law says a test decides, what a chain of returns decides, what a loop over numbers finds or counts, and whether bytes are the same.
 -- Assumes nothing.
 use Prim.Native.Nat.{ℕ, zero, suc, _+_}
 use mathlib.Core.Bool.{Bool, true, false, not}
 use mathlib.Core.List.{List, [], _∷_}
 use lib.Dec.{eqb}
+
+-- b says whether P holds
+pub data Says (P : Type 0) : Bool → Type 0 where
+  holds : P → Says P true
+  fails : (P → ⊥) → Says P false
+
+-- the test of which a law says that
+abbrev pub whether : {P : Type 0} {b : Bool} → Says P b → Bool
+whether {P} {b} s = b
 
 unfoldable pub pick : {A : Type 0} → Bool → A → A → A
 pick true x y = x
@@ -30,11 +39,6 @@ unfoldable pub bit : Bool → ℕ
 bit true = 1
 bit false = 0
 
--- how many numbers below n pass f
-unfoldable pub tally : ℕ → (ℕ → Bool) → ℕ
-tally zero f = 0
-tally (suc n) f = tally n f + bit (f n)
-
 -- how many of a list pass f
 unfoldable pub times : {R : Type 0} → (R → Bool) → List R → ℕ
 times f [] = 0
@@ -50,8 +54,3 @@ same [] [] = true
 same [] (y ∷ ys) = false
 same (x ∷ xs) [] = false
 same (x ∷ xs) (y ∷ ys) = both (eqb x y) (same xs ys)
-
--- every byte is zero
-unfoldable pub allZero : List ℕ → Bool
-allZero [] = true
-allZero (b ∷ bs) = both (eqb b 0) (allZero bs)

@@ -1,6 +1,5 @@
--- Tables: rows of one size, one behind another, in an area with room for more. `read` makes a row of its bytes, `lay` its bytes of a row.
+-- Believed: tables: rows of one size, one behind another, in an area with room for more. `read` makes a row of its bytes, `lay` its bytes of a row.
 -- Assumes nothing.
-use mathlib.Core.Path.{_≡_}
 use Prim.Native.Nat.{ℕ, zero, suc, _+_, _-_, _*_}
 use mathlib.Core.Bool.{Bool, true, false}
 use mathlib.Core.List.{List, [], _∷_, _++_}
@@ -65,12 +64,6 @@ unfoldable pub Asc : {R : Type 0} → (R → R → Type 0) → List R → Type 0
 unfolding Each
 Asc lt [] = Unit {0}
 Asc lt (r ∷ rs) = Each (lt r) rs × Asc lt rs
-
--- once a row fails the test, all behind it fail
-unfoldable pub Falls : {R : Type 0} → (R → Bool) → List R → Type 0
-unfolding Each
-Falls f [] = Unit {0}
-Falls f (r ∷ rs) = (f r ≡ false → Each (λ s. f s ≡ false) rs) × Falls f rs
 
 -- rows that pass the test
 unfoldable pub only : {R : Type 0} → (R → Bool) → List R → List R

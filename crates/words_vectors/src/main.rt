@@ -47,7 +47,7 @@ const BUFFER_STEP: u64 = 7;
 
 const SOURCE_STEP: u64 = 11;
 
-enum Outcome {
+enum StepResult {
     Number(u64),
     Outside,
 }
@@ -93,20 +93,20 @@ fn arguments(op: u64) -> usize
     }
 }
 
-fn print(outcome: Outcome) {
+fn print(outcome: StepResult) {
     match outcome {
-        Outcome::Number(n) => {
+        StepResult::Number(n) => {
             io::print_hex(STDOUT_FILENO, n, 1);
             io::write_all(STDOUT_FILENO, b"\n");
         }
-        Outcome::Outside => {
+        StepResult::Outside => {
             io::write_all(STDOUT_FILENO, b"outside\n");
         }
     }
 }
 
 // A step on fresh buffers.
-fn fresh(op: u64, args: &[u64; MOST_ARGUMENTS]) -> Outcome {
+fn fresh(op: u64, args: &[u64; MOST_ARGUMENTS]) -> StepResult {
     let mut v = [0u8; SIZE];
     fill(&mut v, BUFFER_STEP);
     let mut w = [0u8; SIZE];
@@ -127,7 +127,7 @@ fn fill(v: &mut [u8], by: u64)
     }
 }
 
-fn run(v: &mut [u8], w: &mut [u8], op: u64, args: &[u64; MOST_ARGUMENTS]) -> Outcome {
+fn run(v: &mut [u8], w: &mut [u8], op: u64, args: &[u64; MOST_ARGUMENTS]) -> StepResult {
     let a = args[0] as usize;
     let b = args[1] as usize;
     let c = args[2] as usize;
@@ -137,9 +137,9 @@ fn run(v: &mut [u8], w: &mut [u8], op: u64, args: &[u64; MOST_ARGUMENTS]) -> Out
         IS_ZERO => is_zero(v, a, b, c, args[3]),
         _ => {
             if change(v, w, op, args) {
-                return Outcome::Number(vectors::checksum(v));
+                return StepResult::Number(vectors::checksum(v));
             }
-            Outcome::Outside
+            StepResult::Outside
         }
     }
 }
@@ -161,16 +161,16 @@ fn change(v: &mut [u8], w: &[u8], op: u64, args: &[u64; MOST_ARGUMENTS]) -> bool
 }
 
 // The number of so many bytes at index at.
-fn get(v: &[u8], bytes: usize, at: usize) -> Outcome {
+fn get(v: &[u8], bytes: usize, at: usize) -> StepResult {
     if v.len() < sum(at, bytes) {
-        return Outcome::Outside;
+        return StepResult::Outside;
     }
     match bytes {
-        1 => Outcome::Number(words::get8(v, at)),
-        2 => Outcome::Number(words::get16(v, at)),
-        4 => Outcome::Number(words::get32(v, at)),
-        8 => Outcome::Number(words::get64(v, at)),
-        _ => Outcome::Outside,
+        1 => StepResult::Number(words::get8(v, at)),
+        2 => StepResult::Number(words::get16(v, at)),
+        4 => StepResult::Number(words::get32(v, at)),
+        8 => StepResult::Number(words::get64(v, at)),
+        _ => StepResult::Outside,
     }
 }
 
@@ -257,15 +257,15 @@ fn shift_down(v: &mut [u8], from: usize, to: usize, by: usize) -> bool {
 }
 
 // The first n bytes of v, and the first m of the same pattern in w, where the byte at index at is x.
-fn same(v: &[u8], n: usize, w: &mut [u8], m: usize, at: usize, x: u64) -> Outcome {
+fn same(v: &[u8], n: usize, w: &mut [u8], m: usize, at: usize, x: u64) -> StepResult {
     if v.len() < n {
-        return Outcome::Outside;
+        return StepResult::Outside;
     }
     if w.len() < m {
-        return Outcome::Outside;
+        return StepResult::Outside;
     }
     if w.len() <= at {
-        return Outcome::Outside;
+        return StepResult::Outside;
     }
     fill(w, BUFFER_STEP);
     words::put8(w, at, x);
@@ -273,12 +273,12 @@ fn same(v: &[u8], n: usize, w: &mut [u8], m: usize, at: usize, x: u64) -> Outcom
 }
 
 // n bytes of zeros, where the byte at index at is x.
-fn is_zero(v: &mut [u8], from: usize, n: usize, at: usize, x: u64) -> Outcome {
+fn is_zero(v: &mut [u8], from: usize, n: usize, at: usize, x: u64) -> StepResult {
     if v.len() < sum(from, n) {
-        return Outcome::Outside;
+        return StepResult::Outside;
     }
     if v.len() <= at {
-        return Outcome::Outside;
+        return StepResult::Outside;
     }
     let whole = v.len();
     words::clear(v, 0, whole);
@@ -286,11 +286,11 @@ fn is_zero(v: &mut [u8], from: usize, n: usize, at: usize, x: u64) -> Outcome {
     said(words::is_zero(&v[from..from + n]))
 }
 
-fn said(yes: bool) -> Outcome {
+fn said(yes: bool) -> StepResult {
     if yes {
-        Outcome::Number(1)
+        StepResult::Number(1)
     } else {
-        Outcome::Number(0)
+        StepResult::Number(0)
     }
 }
 

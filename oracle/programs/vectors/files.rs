@@ -5,6 +5,7 @@ use super::{
     lists::{Item, spelled},
 };
 use oracle::{
+    bytes::{adler_32, filled},
     error::Error,
     runtime::types::ChunkSize,
     scope,
@@ -73,21 +74,6 @@ fn items(generator: &mut Generator, runs: usize) -> Vec<Item> {
         println!("{name}: {done} carried out, {missing} answer 2, {large} answer 5");
     }
     items
-}
-
-/// Byte i of what a seed makes. No byte is 0, so that none looks like a hole.
-fn filled(seed: u64, length: u64) -> Vec<u8> {
-    let byte = |i| ((seed + 7 * i) % 251 + 1) as u8;
-    (0..length).map(byte).collect()
-}
-
-fn adler_32(bytes: &[u8]) -> u64 {
-    let (mut low, mut high) = (1, 0);
-    for &byte in bytes {
-        low = (low + byte as u64) % 65521;
-        high = (high + low) % 65521;
-    }
-    high << 16 | low
 }
 
 struct Run {

@@ -176,7 +176,7 @@ fn random_path(generator: &mut Generator, length: usize) -> String {
 }
 
 /// Characters of one to four bytes, `length` bytes in all.
-fn name(generator: &mut Generator, length: usize) -> String {
+pub fn name(generator: &mut Generator, length: usize) -> String {
     let mut name = String::new();
     while name.len() < length {
         let next = character(generator);

@@ -5,7 +5,8 @@ use denote.Ref.{now}
 use native.Mathlib.Omega.{arith}
 use Rattle.words.specs.Bytes.{Bytes}
 use Rattle.soundness.proofs.Checked.{not-opened, opened-sound, opened-ready}
-use Rattle.lentilraft.proofs.Door.{report-shut, report-short, report-full}
+use Rattle.lentilraft.specs.Report.{reported, report}
+use Rattle.lentilraft.proofs.Door.{into-shut, report-short, report-full}
 
 open-requires : tie.Need-open-requires
 open-requires c κs = search needs
@@ -17,8 +18,9 @@ enum-told : tie.Need-enum-told
 enum-told c = search needs
 
 returns : tie.Need-returns
+unfolding report
 returns c =
-    report-shut (now (c .before .before .before .before .before .args .volume)) (now (c .before .before .before .before .before .args .out)) (not-opened (now (c .before .before .before .before .before .args .volume)) (c .before .before .«open» .ensures) (c .before .match .keys2))
+    into-shut (now (c .before .before .before .before .before .args .volume)) (now (c .before .before .before .before .before .args .out)) reported (not-opened (now (c .before .before .before .before .before .args .volume)) (c .before .before .«open» .ensures) (c .before .match .keys2))
 
 returns-2 : tie.Need-returns-2
 returns-2 c =

@@ -6,7 +6,7 @@ use native.Mathlib.Omega.{arith}
 use Rattle.words.specs.Bytes.{Bytes}
 use Rattle.soundness.proofs.Checked.{not-opened, opened-sound, opened-good, opened-ready}
 use Rattle.files.specs.Resize as Resize
-use Rattle.lentilraft.specs.Door.{resizeFile}
+use Rattle.lentilraft.specs.Door.{resize}
 use Rattle.lentilraft.proofs.Door.{door-open, door-shut}
 
 open-requires : tie.Need-open-requires
@@ -22,7 +22,7 @@ same-length : tie.Need-same-length
 same-length c = search needs
 
 returns : tie.Need-returns
-unfolding resizeFile
+unfolding resize
 returns c =
     door-shut (now (c .before .before .before .before .before .args .volume)) (Resize.resize (c .before .before .before .before .before .args .node) (c .before .before .before .before .before .args .size)) (not-opened (now (c .before .before .before .before .before .args .volume)) (c .before .before .«open» .ensures) (c .before .match .keys2))
 
@@ -35,7 +35,7 @@ same-length-2 : tie.Need-same-length-2
 same-length-2 c = search needs
 
 returns-2 : tie.Need-returns-2
-unfolding resizeFile
+unfolding resize
 returns-2 c =
     door-open (now (c .before .before .before .before .before .before .before .before .before .before .args .volume)) (Resize.resize (c .before .before .before .before .before .before .before .before .before .before .args .node) (c .before .before .before .before .before .before .before .before .before .before .args .size)) (opened-sound (now (c .before .before .before .before .before .before .before .before .before .before .args .volume)) (c .before .before .before .before .before .before .before .«open» .ensures) (c .before .before .before .before .before .before .match .keys1)) (c .before .before .resize-file .ensures)
 

@@ -6,11 +6,11 @@ use Prim.Native.Nat.{ℕ, _+_, _-_, _≤_, _<_}
 use lib.ListN.{length, getD}
 use denote.Ref.{now}
 use native.Mathlib.Omega.{arith}
-use Rattle.paths.proofs.Bounds.{Fit}
+use Rattle.paths.specs.Shown.{BoundsFit}
 use Rattle.path_vectors.proofs.compare_parts.Tie as tie
 
 -- the bounds of a part, as they are read from the arrays, lie in the path
-within-of : (path ss ls : List ℕ) (n i : ℕ) {start size : ℕ} → Fit path ss ls n → i < n → start ≡ getD ss i 0 → size ≡ getD ls i 0 → start + size ≤ length path
+within-of : (path ss ls : List ℕ) (n i : ℕ) {start size : ℕ} → BoundsFit path ss ls n → i < n → start ≡ getD ss i 0 → size ≡ getD ls i 0 → start + size ≤ length path
 within-of path ss ls n i fit h s l = rw (s, l) (fit .within i h)
 
 abbrev Inv-loop : tie.InvT-loop

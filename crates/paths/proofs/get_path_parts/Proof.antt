@@ -45,8 +45,8 @@ sub-place-piece-2 c = search needs
 place-piece-requires : tie.Need-place-piece-requires Inv-loop μ-loop
 place-piece-requires c κs = (search needs, omega arith, c .before .before .read-piece .ensures .1 .few)
 
-enum-known-step : tie.Need-enum-known-step Inv-loop μ-loop
-enum-known-step c = search needs
+enum-known-turn : tie.Need-enum-known-turn Inv-loop μ-loop
+enum-known-turn c = search needs
 
 enum-told : tie.Need-enum-told Inv-loop μ-loop
 enum-told c = search needs
@@ -60,7 +60,7 @@ loop-less c = search needs
 
 loop-again : tie.Need-loop-again Inv-loop μ-loop
 loop-again c =
-    (omega arith, c .before .before .before .before .before .before .before .before .loop .inv .1, omega (arith, ap partsAfter (c .before .step .given .1)), walk-turn (now (c .before .before .before .before .before .before .before .before .before .before .before .before .before .args .path)) _ _ _ _ _ _ _ (c .before .before .before .before .before .before .before .before .loop .inv .3) (c .before .before .before .before .before .before .read-piece .ensures .0) (c .before .before .before .before .before .before .read-piece .ensures .1) (c .before .before .before .place-piece .ensures .0) (c .before .step .given .1))
+    (omega arith, c .before .before .before .before .before .before .before .before .loop .inv .1, omega (arith, ap partsAfter (c .before .turn .given .1)), walk-turn (now (c .before .before .before .before .before .before .before .before .before .before .before .before .before .args .path)) _ _ _ _ _ _ _ (c .before .before .before .before .before .before .before .before .loop .inv .3) (c .before .before .before .before .before .before .read-piece .ensures .0) (c .before .before .before .before .before .before .read-piece .ensures .1) (c .before .before .before .place-piece .ensures .0) (c .before .turn .given .1))
 
 returns-4 : tie.Need-returns-4 Inv-loop μ-loop
 returns-4 c =
@@ -84,7 +84,7 @@ get-path-parts-spec =
     sub-place-piece
     sub-place-piece-2
     place-piece-requires
-    enum-known-step
+    enum-known-turn
     enum-told
     returns-3
     loop-less

@@ -4,7 +4,7 @@ use denote.Ref.{now}
 use mathlib.Core.Path.{ap, _∙_}
 use Prim.Native.Nat.{_-_}
 use Rattle.words.proofs.Rules.{stop, go-on, call-yes, call-no}
-use Rattle.allocator.specs.Opening.{pointersGood, openable}
+use Rattle.allocator.specs.Opening.{freeWordsGood, openable}
 use Rattle.allocator.proofs.Opened.{meant-positive}
 use Rattle.allocator.proofs.opening.is_openable.Tie as tie
 
@@ -33,7 +33,7 @@ pointers-good-requires c κs =
 returns-3 : tie.Need-returns-3
 unfolding openable
 returns-3 c =
-    go-on _ _ (call-yes (c .before .before .before .before .before .is-marked .ensures) (c .before .before .before .before .if1 .left)) (go-on _ _ (call-yes (c .before .before .before .is-sized .ensures) (c .before .before .if2 .left)) (c .pointers-good .ensures ∙ ap (pointersGood (now (c .before .before .before .before .before .before .before .args .words))) (c .before .size-meant .ensures)))
+    go-on _ _ (call-yes (c .before .before .before .before .before .is-marked .ensures) (c .before .before .before .before .if1 .left)) (go-on _ _ (call-yes (c .before .before .before .is-sized .ensures) (c .before .before .if2 .left)) (c .pointers-good .ensures ∙ ap (freeWordsGood (now (c .before .before .before .before .before .before .before .args .words))) (c .before .size-meant .ensures)))
 
 pub is-openable-spec : {M : Type 1} → statement M
 is-openable-spec =

@@ -9,7 +9,7 @@ use borrow.Author.Tests.{le-leb, lt-leb}
 use Rattle.words.specs.Bytes.{word}
 use Rattle.words.specs.Rules.{upto, apart}
 use Rattle.words.proofs.Rules.{by1, by2, stop, go-on, call-yes, call-no, is-yes, is-no}
-use Rattle.allocator.specs.Opening.{lined, freeWord, freeLined, freeApart, pointersGood}
+use Rattle.allocator.specs.Opening.{lined, freeWord, freeWordsLined, freeWordsApart, freeWordsGood}
 use Rattle.allocator.specs.Allocator.{freeRoom}
 use Rattle.allocator.proofs.opening.pointers_good.Tie as tie
 
@@ -20,7 +20,7 @@ rem-if1 : tie.Need-rem-if1
 rem-if1 c = search needs
 
 returns : tie.Need-returns
-unfolding pointersGood
+unfolding freeWordsGood
 returns c =
     stop _ _ (is-no (ap (λ n. n % c .before .before .before .args .span) (c .before .get64 .ensures)) (c .if1 .taken))
 
@@ -31,7 +31,7 @@ sub-room : tie.Need-sub-room
 sub-room c = search needs
 
 returns-2 : tie.Need-returns-2
-unfolding pointersGood
+unfolding freeWordsGood
 returns-2 c =
     go-on _ _ (is-yes (ap (λ n. n % c .before .before .before .before .before .args .span) (c .before .before .before .get64 .ensures)) (c .before .before .if1 .left)) (stop _ _ (lt-leb (word (now (c .before .before .before .before .before .args .words)) 16) (freeRoom (now (c .before .before .before .before .before .args .words))) (omega (arith, c .before .get-len .ensures))))
 
@@ -39,7 +39,7 @@ all-lined-requires : tie.Need-all-lined-requires
 all-lined-requires c κs = search needs
 
 returns-3 : tie.Need-returns-3
-unfolding pointersGood freeLined
+unfolding freeWordsGood freeWordsLined
 returns-3 c =
     go-on _ _ (is-yes (ap (λ n. n % c .before .before .before .before .before .before .before .args .span) (c .before .before .before .before .before .get64 .ensures)) (c .before .before .before .before .if1 .left)) (go-on _ _ (le-leb (word (now (c .before .before .before .before .before .before .before .args .words)) 16) (freeRoom (now (c .before .before .before .before .before .before .before .args .words))) (omega (arith, c .before .before .before .get-len .ensures))) (stop _ _ (call-no (by2 (λ n s. upto n (λ i. lined (c .before .before .before .before .before .before .before .args .span) s (freeWord (now (c .before .before .before .before .before .before .before .args .words)) i))) (c .before .all-lined .ensures) (c .before .before .before .get-len .ensures) (c .before .before .before .before .before .get64 .ensures)) (c .if3 .taken))))
 
@@ -47,7 +47,7 @@ all-apart-requires : tie.Need-all-apart-requires
 all-apart-requires c κs = search needs
 
 returns-4 : tie.Need-returns-4
-unfolding pointersGood freeLined freeApart
+unfolding freeWordsGood freeWordsLined freeWordsApart
 returns-4 c =
     go-on _ _ (is-yes (ap (λ n. n % c .before .before .before .before .before .before .before .before .args .span) (c .before .before .before .before .before .before .get64 .ensures)) (c .before .before .before .before .before .if1 .left)) (go-on _ _ (le-leb (word (now (c .before .before .before .before .before .before .before .before .args .words)) 16) (freeRoom (now (c .before .before .before .before .before .before .before .before .args .words))) (omega (arith, c .before .before .before .before .get-len .ensures))) (go-on _ _ (call-yes (by2 (λ n s. upto n (λ i. lined (c .before .before .before .before .before .before .before .before .args .span) s (freeWord (now (c .before .before .before .before .before .before .before .before .args .words)) i))) (c .before .before .all-lined .ensures) (c .before .before .before .before .get-len .ensures) (c .before .before .before .before .before .before .get64 .ensures)) (c .before .if3 .left)) (by1 (λ n. apart n (λ j i. eqb (freeWord (now (c .before .before .before .before .before .before .before .before .args .words)) j) (freeWord (now (c .before .before .before .before .before .before .before .before .args .words)) i))) (c .all-apart .ensures) (c .before .before .before .before .get-len .ensures))))
 

@@ -2,8 +2,8 @@ use Rattle.soundness.proofs.frame.entry_rows.Statement.{statement}
 use borrow.Author.Needs.{needs}
 use denote.Ref.{now}
 use native.Mathlib.Omega.{arith}
-use Rattle.words.proofs.Rules.{upto-start, upto-turn, upto-fail, upto-end, call-no, call-yes}
 use Rattle.words.specs.Rules.{upto}
+use Rattle.words.proofs.Rules.{upto-start, upto-turn, upto-fail, upto-end, call-no, call-yes}
 use Rattle.volume.specs.Rows.{entryRow}
 use Rattle.volume.specs.RowTests.{entryFormed}
 use mathlib.Core.Bool.{true}

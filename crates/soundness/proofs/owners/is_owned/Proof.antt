@@ -10,10 +10,10 @@ use lib.ListN.{length}
 use Rattle.words.specs.Rules.{upto}
 use Rattle.words.proofs.Rules.{upto-start, upto-turn, upto-fail, upto-end, call-yes, call-no}
 use Rattle.volume.specs.Volume.{shown}
-use Rattle.soundness.specs.OwnerRules.{chunkOwned, owned}
+use Rattle.soundness.specs.OwnerRules.{rowOwned, chunksOwned}
 
 abbrev Inv-loop : tie.InvT-loop
-Inv-loop volume layout span used i₀ i = (i ≤ used) × (upto i (chunkOwned (shown volume .names) (shown volume .store)) ≡ true)
+Inv-loop volume layout span used i₀ i = (i ≤ used) × (upto i (rowOwned (shown volume .names) (shown volume .store)) ≡ true)
 
 abbrev μ-loop : tie.MeasureT-loop
 μ-loop volume layout span used i₀ i = used - i
@@ -23,16 +23,16 @@ chunks-used-requires c κs = search needs
 
 loop-holds : tie.Need-loop-holds Inv-loop μ-loop
 loop-holds c =
-    (search needs, upto-start (chunkOwned ((shown (now (c .before .before .args .volume)) .names)) ((shown (now (c .before .before .args .volume)) .store))))
+    (search needs, upto-start (rowOwned ((shown (now (c .before .before .args .volume)) .names)) ((shown (now (c .before .before .args .volume)) .store))))
 
 chunk-owned-requires : tie.Need-chunk-owned-requires Inv-loop μ-loop
 chunk-owned-requires c κs =
     (c .before .before .before .before .pre .0, c .before .before .before .before .pre .1, c .before .before .before .before .pre .2, c .before .before .before .before .pre .3, omega (arith, c .before .before .chunks-used .ensures .0))
 
 returns : tie.Need-returns Inv-loop μ-loop
-unfolding owned
+unfolding chunksOwned
 returns c =
-    upto-fail (chunkOwned ((shown (now (c .before .before .before .before .before .before .args .volume)) .names)) ((shown (now (c .before .before .before .before .before .before .args .volume)) .store))) (length ((shown (now (c .before .before .before .before .before .before .args .volume)) .store) .chunks)) (c .before .before .before .loop .i) (omega (arith, c .before .before .before .before .chunks-used .ensures .0)) (call-no (c .before .chunk-owned .ensures) (c .if1 .taken))
+    upto-fail (rowOwned ((shown (now (c .before .before .before .before .before .before .args .volume)) .names)) ((shown (now (c .before .before .before .before .before .before .args .volume)) .store))) (length ((shown (now (c .before .before .before .before .before .before .args .volume)) .store) .chunks)) (c .before .before .before .loop .i) (omega (arith, c .before .before .before .before .chunks-used .ensures .0)) (call-no (c .before .chunk-owned .ensures) (c .if1 .taken))
 
 add-i : tie.Need-add-i Inv-loop μ-loop
 add-i c = search needs
@@ -42,12 +42,12 @@ loop-less c = search needs
 
 loop-again : tie.Need-loop-again Inv-loop μ-loop
 loop-again c =
-    (omega arith, upto-turn (chunkOwned ((shown (now (c .before .before .before .before .before .before .args .volume)) .names)) ((shown (now (c .before .before .before .before .before .before .args .volume)) .store))) (c .before .before .before .loop .i) (c .before .before .before .loop .inv .1) (call-yes (c .before .chunk-owned .ensures) (c .if1 .left)))
+    (omega arith, upto-turn (rowOwned ((shown (now (c .before .before .before .before .before .before .args .volume)) .names)) ((shown (now (c .before .before .before .before .before .before .args .volume)) .store))) (c .before .before .before .loop .i) (c .before .before .before .loop .inv .1) (call-yes (c .before .chunk-owned .ensures) (c .if1 .left)))
 
 returns-2 : tie.Need-returns-2 Inv-loop μ-loop
-unfolding owned
+unfolding chunksOwned
 returns-2 c =
-    upto-end (chunkOwned ((shown (now (c .before .before .before .before .args .volume)) .names)) ((shown (now (c .before .before .before .before .args .volume)) .store))) (length ((shown (now (c .before .before .before .before .args .volume)) .store) .chunks)) (c .before .loop .i) (c .before .loop .inv .1) (omega (arith, c .before .before .chunks-used .ensures .0))
+    upto-end (rowOwned ((shown (now (c .before .before .before .before .args .volume)) .names)) ((shown (now (c .before .before .before .before .args .volume)) .store))) (length ((shown (now (c .before .before .before .before .args .volume)) .store) .chunks)) (c .before .loop .i) (c .before .loop .inv .1) (omega (arith, c .before .before .chunks-used .ensures .0))
 
 pub is-owned-spec : {M : Type 1} → statement M
 is-owned-spec =

@@ -6,7 +6,7 @@ use Prim.Native.Nat.{ℕ, _-_, _≤_}
 use native.Mathlib.Omega.{arith}
 use lib.ListN.{length}
 use lib.Dec.{eqb}
-use Rattle.words.specs.Rules.{tally}
+use Rattle.words.specs.Tests.{tally}
 use Rattle.words.proofs.Rules.{tally-start, tally-turn, by1}
 use Rattle.volume.specs.Volume.{shown}
 use Rattle.tables.specs.Tables.{chunkAt}

@@ -5,7 +5,7 @@ use mathlib.Core.Path.{_≡_}
 use Prim.Native.Nat.{ℕ, _-_, _≤_}
 use native.Mathlib.Omega.{arith}
 use lib.Dec.{eqb}
-use Rattle.words.specs.Rules.{tally}
+use Rattle.words.specs.Tests.{tally}
 use Rattle.words.proofs.Rules.{tally-start, tally-turn, by1}
 use Rattle.allocator.specs.Opening.{freeWord}
 use Rattle.soundness.proofs.pointers.words_standing.Tie as tie

@@ -4,7 +4,7 @@ use denote.Ref.{now}
 use Rattle.words.proofs.Rules.{stop, go-on, by1, le-yes, le-no, le-yes2, le-no2}
 use Rattle.words.proofs.Blocks.{zero-part}
 use Rattle.words.specs.Bytes.{part}
-use Rattle.words.specs.Rules.{allZero}
+use Rattle.words.specs.Tests.{allZero}
 use Rattle.volume.specs.RowTests.{entryFormed}
 use mathlib.Core.Path.{refl}
 use Prim.Native.Nat.{_+_, _-_}

@@ -5,7 +5,7 @@ use mathlib.Core.Path.{_≡_, refl}
 use mathlib.Core.Bool.{true}
 use Prim.Native.Nat.{_-_, _≤_}
 use lib.ListN.{length, take}
-use Rattle.words.specs.Rules.{allZero}
+use Rattle.words.specs.Tests.{allZero}
 use Rattle.words.proofs.Blocks.{zero-turn, zero-stop}
 use Rattle.words.proofs.compare.is_zero.Tie as tie
 

@@ -6,7 +6,7 @@ use mathlib.Core.Bool.{true}
 use Prim.Native.Nat.{_-_, _≤_}
 use native.Mathlib.Omega.{arith}
 use lib.ListN.{length, take}
-use Rattle.words.specs.Rules.{allZero}
+use Rattle.words.specs.Tests.{allZero}
 use Rattle.words.proofs.Blocks.{zero-byte, zero-turn, zero-stop, zero-end}
 use Rattle.words.proofs.compare.is_zero_from.Tie as tie
 

@@ -1,0 +1,169 @@
+-- An unlink as code takes it: the entry that a path leads to, by its place; its refusals, which leave the volume as it was; and its end.
+-- Assumes nothing.
+use mathlib.Core.Path.{_≡_, refl, sym, ap, _∙_}
+use mathlib.Core.Bool.{Bool}
+use mathlib.Core.List.{List}
+use mathlib.Core.Option.{some}
+use Prim.Native.Nat.{ℕ, zero, suc, _<_}
+use native.Mathlib.Omega.{arith}
+use lib.ListN.{length}
+use borrow.Author.Tests.{eq-eqb, ne-eqb}
+use denote.Enum.Declared.{tagOf}
+use Rattle.words.specs.Tables.{Asc}
+use Rattle.words.proofs.Rules.{pick-true, pick-false}
+use Rattle.types.specs.declared.Answer.{Answer}
+use Rattle.types.specs.declared.Answer.the-variants.{Done, Refused}
+use Rattle.types.specs.declared.Error.{Error}
+use Rattle.types.specs.declared.Error.the-variants.{NoSuchEntry, PathNotPermitted, InvalidArgument}
+use Rattle.types.specs.declared.Expected.{Expected}
+use Rattle.types.specs.declared.NodeRecord.{NodeRecord}
+use Rattle.paths.specs.Path.{cutPath, endsOpen}
+use Rattle.paths.specs.declared.Cut.{Cut}
+use Rattle.paths.specs.declared.Cut.the-variants.{Parts, NotPermitted, TooLong}
+use Rattle.paths.proofs.Cut as CutType
+use Rattle.paths.proofs.Shown.{length-shown}
+use Rattle.paths.proofs.Bounds.{told-parts, told-refused, told-long}
+use Rattle.volume.specs.declared.Layout.{Layout}
+use Rattle.volume.specs.Rows.{Entry}
+use Rattle.volume.specs.Volume.{Names, Volume, shown, laid, onNames}
+use Rattle.volume.specs.Sound.{node, nodeBefore, entryBefore, Good}
+use Rattle.volume.specs.Steps.{NamesStep, remain, turn, nameStep}
+use Rattle.tables.specs.Tables.{Ready, nodeAt, entryAt, foundNode}
+use Rattle.tables.specs.declared.Found.{Found}
+use Rattle.tables.specs.declared.Found.the-variants as found
+use Rattle.tables.proofs.Found.{the-type}
+use Rattle.tables.proofs.TableSearch.{node-found, node-absent}
+use Rattle.files.proofs.LimitSteps.{Meets}
+use Rattle.names.specs.Walks.{onCutting}
+use Rattle.names.specs.Unlinking.{unlinked, unlinkNode, unlinkReached, unlink}
+use Rattle.directories.specs.declared.finding.Reached.{Reached}
+use Rattle.directories.specs.declared.finding.Reached.the-variants.{At, Stopped}
+use Rattle.directories.specs.declared.unlinking.Verdict.{Verdict}
+use Rattle.directories.specs.declared.unlinking.Verdict.the-variants as verdict
+use Rattle.directories.specs.Reaches.{reachFrom}
+use Rattle.directories.specs.Verdicts.{verdict, Leaves, unlinkAt}
+use Rattle.directories.proofs.unlinking.Verdict as VerdictType
+use Rattle.directories.proofs.ReachedPlace.{place-inside}
+use Rattle.directories.proofs.Reaching.{walkShown, reach-shows}
+use Rattle.directories.proofs.Judging.{stepBy, verdict-step, verdict-empty}
+use Rattle.paths.specs.Shown.{Cutout, cutout, shownParts, BoundsFit, CutShows}
+
+-- a step of the names, lifted to a volume
+meets-names : {x : List ℕ} (v : Volume) (s t : NamesStep) → x ≡ laid (onNames (λ _. s .after) v) → s ≡ t → Meets (s .answer) x (nameStep (λ _. t) v)
+meets-names v s t h e = (ap (λ o. o .answer) e, h ∙ ap (λ o. laid (onNames (λ _. o .after) v)) e)
+
+-- a refusal leaves the volume as it was
+refusal : {l : List ℕ} → laid (shown l) ≡ l → (call : Names → NamesStep) (x : Error) → remain x (shown l .names) ≡ call (shown l .names) → Meets (Refused x) l (nameStep call (shown l))
+refusal {l} same call x h = meets-names (shown l) (remain x (shown l .names)) _ (sym same) h
+
+-- ---- the entry at a place
+
+module _ (l : List ℕ) (y : Layout) (ready : Ready l y) (g : Good (shown l)) (p : ℕ) (inside : p < length (shown l .names .entries)) (want : Expected) (opens : ℕ) where
+  abbrev a : Names
+  a = shown l .names
+
+  abbrev e : Entry
+  e = entryAt (a .entries) p
+
+  abbrev Ends : Answer → List ℕ → Type 0
+  Ends r x = Meets r x (nameStep (unlinkAt p want opens) (shown l))
+
+  module _ {n : ℕ} (q : n ≡ e .node) where
+    pub row-missing : (r : Found) → tagOf the-type r ≡ 1 → r ≡ foundNode n (a .nodes) → Ends (Refused NoSuchEntry) l
+    unfolding unlinkAt unlinkNode node
+    row-missing (found.At i) t h = absurd (omega arith)
+    row-missing found.Nothing t h = refusal (ready .formed .same) (unlinkAt p want opens) NoSuchEntry (rw (node-absent (e .node) (a .nodes) (g .named .nodeOrder) (rw q at h)) refl)
+
+    module _ {at : ℕ} {r : Found} (k : r ≡ found.At at) (h : r ≡ foundNode n (a .nodes)) where
+      here : found.At at ≡ foundNode (e .node) (a .nodes)
+      here = rw q at (sym k ∙ h)
+
+      -- what `node_row` asks
+      pub row-asked : Ready l y × (at < length (a .nodes))
+      row-asked = (ready, node-found (e .node) (a .nodes) at here .0)
+
+      module _ {d : NodeRecord} (s : d ≡ nodeAt (a .nodes) at) {v : Verdict} (j : v ≡ verdict want opens d) where
+        onward : stepBy a e v ≡ unlinkAt p want opens a
+        unfolding unlinkAt node
+        onward = ap (stepBy a e) j ∙ verdict-step want opens d a e ∙ ap (unlinkNode want opens a e) (ap (λ (x : NodeRecord). some x) s ∙ sym (node-found (e .node) (a .nodes) at here .1))
+
+        pub entry-stays : {x : Error} → v ≡ verdict.Refused x → Ends (Refused x) l
+        entry-stays {x} z = refusal (ready .formed .same) (unlinkAt p want opens) x (ap (stepBy a e) (sym z) ∙ onward)
+
+        module _ (z : v ≡ verdict.Goes) where
+          -- what `take_entry` asks
+          pub take-asked : Ready l y × Good (shown l) × Leaves a p (record { place = at; row = d })
+          take-asked = (ready, g, record { place = inside; found = here; here = s; empty = verdict-empty want opens d (sym z ∙ j) })
+
+          pub entry-goes : {o : List ℕ} → o ≡ laid (onNames (unlinked e) (shown l)) → Ends (Done n) o
+          entry-goes i = rw q (meets-names (shown l) (turn (e .node) (unlinked e a)) _ i (ap (stepBy a e) (sym z) ∙ onward))
+
+-- a verdict by its case
+pub is-going : (v : Verdict) → tagOf VerdictType.the-type v ≡ 0 → v ≡ verdict.Goes
+is-going verdict.Goes t = refl
+is-going (verdict.Refused x) t = absurd (omega arith)
+
+-- ---- the ends of the call
+
+module _ (start : ℕ) (path : List ℕ) (want : Expected) (opens : ℕ) (l : List ℕ) (y : Layout) (ready : Ready l y) (g : Good (shown l)) where
+  abbrev Ended : Answer → List ℕ → Type 0
+  Ended r x = Meets r x (nameStep (unlink start path want opens) (shown l))
+
+  refused : (x : Error) → remain x (shown l .names) ≡ unlink start path want opens (shown l .names) → Ended (Refused x) l
+  refused = refusal (ready .formed .same) (unlink start path want opens)
+
+  pub unlink-barred : (c : Cut) → tagOf CutType.the-type c ≡ 1 → {ss ls : List ℕ} → CutShows path (cutout c ss ls) (cutPath path) (endsOpen path) → Ended (Refused PathNotPermitted) l
+  unfolding unlink onCutting
+  unlink-barred (Parts n d) t told = absurd (omega arith)
+  unlink-barred NotPermitted t told = refused PathNotPermitted (rw (told-refused told refl) refl)
+  unlink-barred TooLong t told = absurd (omega arith)
+
+  pub unlink-long : (c : Cut) → tagOf CutType.the-type c ≡ 2 → {ss ls : List ℕ} → CutShows path (cutout c ss ls) (cutPath path) (endsOpen path) → Ended (Refused InvalidArgument) l
+  unfolding unlink onCutting
+  unlink-long (Parts n d) t told = absurd (omega arith)
+  unlink-long NotPermitted t told = absurd (omega arith)
+  unlink-long TooLong t told = refused InvalidArgument (rw (told-long told refl) refl)
+
+  module _ {c : Cutout} (told : CutShows path c (cutPath path) (endsOpen path)) {n : ℕ} {d : Bool} (cut : c .cut ≡ Parts n d) where
+    abbrev ps : List (List ℕ)
+    ps = shownParts path (c .starts) (c .lengths) n
+
+    many : length ps ≡ n
+    many = length-shown path (c .starts) (c .lengths) n
+
+    pub unlink-nothing : n ≡ 0 → Ended (Refused PathNotPermitted) l
+    unfolding unlink onCutting
+    unlink-nothing e = refused PathNotPermitted (rw (told-parts told cut) (pick-true _ _ _ _ (eq-eqb (length ps) 0 (many ∙ e)) refl))
+
+    -- what `reach_from` asks
+    pub reach-asked : Ready l y × Asc nodeBefore (shown l .names .nodes) × Asc entryBefore (shown l .names .entries) × BoundsFit path (c .starts) (c .lengths) n
+    reach-asked = (ready, g .named .nodeOrder, g .named .entryOrder, told .fits n d cut)
+
+    module _ (part : n ≡ 0 → ⊥) {r : Reached} (h : r ≡ reachFrom start (shown l .names) ps) where
+      some-part : length ps ≡ 0 → ⊥
+      some-part e = part (sym many ∙ e)
+
+      parts-lead : unlinkReached want opens (shown l .names) (walkShown (shown l .names .entries) (length ps) r) ≡ unlink start path want opens (shown l .names)
+      unfolding unlink onCutting
+      parts-lead =
+          ap (unlinkReached want opens (shown l .names)) (ap (walkShown (shown l .names .entries) (length ps)) h ∙ sym (reach-shows start (shown l .names) (g .named .nodeOrder) (g .named .entryOrder) ps))
+          ∙ rw (told-parts told cut) (pick-false _ _ _ _ (ne-eqb (length ps) 0 some-part) refl)
+
+      pub unlink-stopped : {x : Error} → r ≡ Stopped x → Ended (Refused x) l
+      unlink-stopped {x} k = refused x (unfold unlinkReached walkShown in (rw k at parts-lead))
+
+      module _ {m p : ℕ} (k : r ≡ At m p) where
+        -- what `unlink_at` asks
+        pub at-asked : Ready l y × Good (shown l) × (p < length (shown l .names .entries))
+        at-asked = (ready, g, place-inside start (shown l .names) (g .named .entryOrder) ps some-part (sym k ∙ h))
+
+        entry-reached : unlinkAt p want opens (shown l .names) ≡ unlink start path want opens (shown l .names)
+        entry-reached = go (length ps) some-part (rw k at parts-lead)
+          where
+            go : (j : ℕ) → (j ≡ 0 → ⊥) → unlinkReached want opens (shown l .names) (walkShown (shown l .names .entries) j (At m p)) ≡ unlink start path want opens (shown l .names)
+                → unlinkAt p want opens (shown l .names) ≡ unlink start path want opens (shown l .names)
+            go zero z i = absurd (z refl)
+            go (suc j) z i = unfold unlinkReached walkShown unlinkAt in i
+
+        pub unlink-ends : {x : Answer} {o : List ℕ} → Meets x o (nameStep (unlinkAt p want opens) (shown l)) → Ended x o
+        unlink-ends i = (i .0 ∙ ap (λ s. s .answer) entry-reached, i .1 ∙ ap (λ s. laid (onNames (λ _. s .after) (shown l))) entry-reached)

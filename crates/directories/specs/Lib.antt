@@ -1,0 +1,4 @@
+pub mod Searches
+pub mod Reaches
+pub mod Verdicts
+pub mod Spots

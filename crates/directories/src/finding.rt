@@ -1,0 +1,114 @@
+// A path's parts looked up one by one, from a node on.
+use crate::searching::Searched;
+use crate::searching::find_entry;
+use paths::Cut;
+use tables::Found;
+use types::Answer;
+use types::Error;
+use volume::Layout;
+ghost use mathlib.Core.Path.{_≡_};
+ghost use Prim.Native.Nat.{_+_, _≤_, _<_};
+ghost use lib.ListN.{length, getD};
+ghost use Rattle.words.specs.Bytes.{part};
+ghost use Rattle.words.specs.Tables.{Asc};
+ghost use Rattle.types.specs.Sizes.{mostParts};
+ghost use Rattle.paths.specs.Shown.{BoundsFit, shownParts};
+ghost use Rattle.volume.specs.Volume.{shown};
+ghost use Rattle.volume.specs.Sound.{Named, nodeBefore, entryBefore};
+ghost use Rattle.tables.specs.Tables.{Ready};
+ghost use Rattle.names.specs.Walks.{findNode};
+ghost use Rattle.directories.specs.Reaches.{reach, reachFrom};
+
+// The node that parts lead to, and the place of the entry that names it last (0 where there was no part); or why they lead nowhere.
+pub enum Reached {
+    At(u64, usize),
+    Stopped(Error),
+}
+
+// Where one part leads from a node.
+fn reach(volume: &[u8], layout: Layout, node: u64, part: &[u8]) -> Reached
+    requires { ⌜ Ready (now volume) layout × Asc entryBefore (shown (now volume) .names .entries) ⌝ }
+    ensures { λ r. ⌜ r ≡ reach (shown (now (volume .entry)) .names .entries) node (now (part .entry)) ⌝ }
+{
+    if types::MOST_NAME < part.len() {
+        return Reached::Stopped(Error::BadName);
+    }
+    let found = find_entry(volume, layout, node, part);
+    let Searched::At(place, _) = found else {
+        return Reached::Stopped(Error::NoSuchEntry);
+    };
+    Reached::At(tables::entry_node(volume, layout, place), place)
+}
+
+// A u16 as an index.
+fn wide(x: u16) -> usize
+    ensures { λ r. ⌜ r ≡ x ⌝ }
+{
+    x as usize
+}
+
+// Part i of a path, by its bounds.
+fn part_at<'a>(
+    path: &'a [u8],
+    starts: &[u16; types::MOST_PARTS],
+    lengths: &[u16; types::MOST_PARTS],
+    i: usize,
+) -> &'a [u8]
+    requires { ⌜ (i < mostParts) × (getD (now starts) i 0 + getD (now lengths) i 0 ≤ length (now path)) ⌝ }
+    ensures { λ r. ⌜ now r ≡ part (now (path .entry)) (getD (now (starts .entry)) i 0) (getD (now (lengths .entry)) i 0) ⌝ }
+{
+    let at = wide(starts[i]);
+    let long = wide(lengths[i]);
+    &path[at..at + long]
+}
+
+// Where the parts of a path lead from a start, which has to have a row.
+pub fn reach_from(
+    volume: &[u8],
+    layout: Layout,
+    start: u64,
+    path: &[u8],
+    starts: &[u16; types::MOST_PARTS],
+    lengths: &[u16; types::MOST_PARTS],
+    count: usize,
+) -> Reached
+    requires { ⌜ Ready (now volume) layout × Asc nodeBefore (shown (now volume) .names .nodes) × Asc entryBefore (shown (now volume) .names .entries) × BoundsFit (now path) (now starts) (now lengths) count ⌝ }
+    ensures { λ r. ⌜ r ≡ reachFrom start (shown (now (volume .entry)) .names) (shownParts (now (path .entry)) (now (starts .entry)) (now (lengths .entry)) count) ⌝ }
+{
+    let Found::At(_) = tables::find_node(volume, layout, start) else {
+        return Reached::Stopped(Error::NoSuchEntry);
+    };
+    let mut node = start;
+    let mut place = 0;
+    let mut i = 0;
+    while i < count {
+        let step = reach(volume, layout, node, part_at(path, starts, lengths, i));
+        let Reached::At(next, found) = step else {
+            return step;
+        };
+        node = next;
+        place = found;
+        i += 1;
+    }
+    Reached::At(node, place)
+}
+
+// The node that a path leads to from a start.
+pub fn find_node(volume: &[u8], layout: Layout, start: u64, path: &[u8]) -> Answer
+    requires { ⌜ Ready (now volume) layout × Named (shown (now volume) .names) ⌝ }
+    ensures { λ r. ⌜ r ≡ findNode start (now (path .entry)) (shown (now (volume .entry)) .names) ⌝ }
+{
+    let mut starts = [0u16; types::MOST_PARTS];
+    let mut lengths = [0u16; types::MOST_PARTS];
+    let cut = paths::get_path_parts(path, &mut starts, &mut lengths);
+    let count = match cut {
+        Cut::Parts(count, _) => count,
+        Cut::NotPermitted => return Answer::Refused(Error::PathNotPermitted),
+        Cut::TooLong => return Answer::Refused(Error::InvalidArgument),
+    };
+    let reached = reach_from(volume, layout, start, path, &starts, &lengths, count);
+    match reached {
+        Reached::At(node, _) => Answer::Done(node),
+        Reached::Stopped(error) => Answer::Refused(error),
+    }
+}

@@ -1,0 +1,10 @@
+pub mod Entered
+pub mod Enterable
+pub mod Grown
+pub mod Created
+pub mod Linked
+pub mod TwoRows
+pub mod EntryKeys
+pub mod Unlinked
+pub mod Removed
+pub mod EntryLaws
