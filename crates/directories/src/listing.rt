@@ -31,10 +31,10 @@ pub fn next_place(volume: &[u8], layout: Layout, directory: u64, from: u64) -> N
     requires { ⌜ Ready (now volume) layout × Asc nodeBefore (shown (now volume) .names .nodes) × Asc entryBefore (shown (now volume) .names .entries) ⌝ }
     ensures { λ r. ⌜ r ≡ nextPlace directory from (shown (now (volume .entry)) .names) ⌝ }
 {
-    let Found::At(at) = tables::find_node(volume, layout, directory) else {
+    let Found::At(found) = tables::find_node(volume, layout, directory) else {
         return NextPlace::Refused(Error::NoSuchEntry);
     };
-    let row = tables::node_row(volume, layout, at);
+    let row = tables::node_row(volume, layout, found);
     let kind = row.kind;
     if !types::is_directory(kind) {
         return NextPlace::Refused(Error::NotDirectory);

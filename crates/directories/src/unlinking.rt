@@ -129,15 +129,15 @@ fn unlink_at(
     ensures { λ r. ⌜ (r ≡ nameStep (unlinkAt place expected opens) (shown (now (volume .entry))) .answer) × (now (volume .exit) ≡ laid (nameStep (unlinkAt place expected opens) (shown (now (volume .entry))) .after)) ⌝ }
 {
     let node = tables::entry_node(volume, layout, place);
-    let Found::At(at) = tables::find_node(volume, layout, node) else {
+    let Found::At(found) = tables::find_node(volume, layout, node) else {
         return Answer::Refused(Error::NoSuchEntry);
     };
-    let row = tables::node_row(volume, layout, at);
+    let row = tables::node_row(volume, layout, found);
     let judged = judge(row, expected, opens);
     if let Verdict::Refused(error) = judged {
         return Answer::Refused(error);
     }
-    take_entry(volume, layout, place, RowAt { place: at, row });
+    take_entry(volume, layout, place, RowAt { place: found, row });
     Answer::Done(node)
 }
 
