@@ -1,3 +1,4 @@
 pub mod Digits
 pub mod Scanning
 pub mod Sums
+pub mod Seeds
