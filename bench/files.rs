@@ -3,12 +3,17 @@
 //!
 //! `files CHUNK_SIZE` prints rows of its table.
 
+#[allow(dead_code)] // of what names need
+mod exported;
 #[allow(dead_code)] // of what the vectors need
 #[path = "../oracle/programs/vectors/generator.rs"]
 mod generator;
+mod laid;
+mod measuring;
 mod sides;
 
 use generator::Generator;
+use measuring::{milliseconds, spread};
 use oracle::{runtime::types::ChunkSize, volume::FILE_LIMIT};
 use sides::{Copies, Place, Proved, Rust, Side};
 
@@ -190,27 +195,6 @@ fn read_all(side: &mut dyn Side, places: &[Place], buffer: &mut [u8]) {
     }
 }
 
-// ---- the clock
-
-#[repr(C)]
-struct Time {
-    seconds: i64,
-    nanoseconds: i64,
-}
-
-const PROCESS_TIME: i32 = 2;
-
-unsafe extern "C" {
-    fn clock_gettime(clock: i32, time: *mut Time) -> i32;
-}
-
-/// Of the processor: what other programs take meanwhile is not counted.
-fn milliseconds() -> f64 {
-    let mut time = Time { seconds: 0, nanoseconds: 0 };
-    assert_eq!(unsafe { clock_gettime(PROCESS_TIME, &mut time) }, 0);
-    time.seconds as f64 * 1e3 + time.nanoseconds as f64 / 1e6
-}
-
 // ---- the table
 
 fn show(size: u64, forms: &[Form], runs: &[Vec<Times>]) {
@@ -222,22 +206,5 @@ fn show(size: u64, forms: &[Form], runs: &[Vec<Times>]) {
         let copy = spread(runs.iter().map(|times| times[COPIES] * 1e3 / form.pattern.calls as f64));
         let [worker, checked] = [WORKER, CHECKED].map(|side| format!("{} | {}", ratio(side, COPIES), ratio(side, RUST)));
         println!("| {} | {worker} | {checked} | {copy} |", form.name());
-    }
-}
-
-/// The median, the least and the greatest.
-fn spread(numbers: impl Iterator<Item = f64>) -> String {
-    let mut numbers: Vec<f64> = numbers.collect();
-    numbers.sort_by(f64::total_cmp);
-    let [least, middle, greatest] = [0, numbers.len() / 2, numbers.len() - 1].map(|i| short(numbers[i]));
-    format!("{middle} ({least} to {greatest})")
-}
-
-/// Two digits, or all before the point.
-fn short(number: f64) -> String {
-    match number {
-        ..0.995 => format!("{number:.2}"),
-        ..9.95 => format!("{number:.1}"),
-        _ => format!("{number:.0}"),
     }
 }

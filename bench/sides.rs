@@ -1,12 +1,10 @@
 //! The four that are measured, asked in one way: the proved calls with their check and without it, the Rust over its stand-ins, and plain copies.
 
-use oracle::{
-    error::Error,
-    runtime::types::ChunkSize,
-    scope,
-    storage::types::FileType,
-    volume::{FILE_LIMIT, Volume},
+use crate::{
+    exported::{lentilraft_read, lentilraft_write},
+    laid::{Laid, ROOT, Rooms},
 };
+use oracle::{error::Error, runtime::types::ChunkSize, scope, storage::types::FileType, volume::Volume};
 use std::ops::Range;
 
 /// The file that is measured, and another one whose chunk rows stand behind its rows.
@@ -44,17 +42,13 @@ type Read = unsafe extern "C" fn(*const u8, usize, u64, u64, *mut u8, usize, *mu
 
 #[rustfmt::skip]
 unsafe extern "C" {
-    fn lentilraft_new_volume(volume: *mut u8, length: usize, nodes: u64, entries: u64, chunks: u64, size: u64) -> u32;
-    fn lentilraft_check(volume: *const u8, length: usize) -> u32;
-    fn lentilraft_write(volume: *mut u8, length: usize, node: u64, offset: u64, bytes: *const u8, bytes_length: usize, count: *mut u64) -> u32;
-    fn lentilraft_read(volume: *const u8, length: usize, node: u64, offset: u64, buffer: *mut u8, buffer_length: usize, count: *mut u64) -> u32;
     fn unchecked_write(volume: *mut u8, length: usize, node: u64, offset: u64, bytes: *const u8, bytes_length: usize, count: *mut u64) -> u32;
     fn unchecked_read(volume: *const u8, length: usize, node: u64, offset: u64, buffer: *mut u8, buffer_length: usize, count: *mut u64) -> u32;
 }
 
 pub struct Proved {
     chunk: u64,
-    memory: Vec<u8>,
+    volume: Laid,
     write: Write,
     read: Read,
 }
@@ -69,36 +63,23 @@ impl Proved {
     }
 
     fn new(chunk: u64, write: Write, read: Read) -> Self {
-        let tables = 192 + 32 * CHUNKS + (40 + 280) * ROWS;
-        let memory = vec![0; (tables + CHUNKS * chunk) as usize];
-        Proved { chunk, memory, write, read }
+        let volume = Laid::new(Rooms { nodes: ROWS, entries: ROWS, chunks: CHUNKS }, chunk);
+        Proved { chunk, volume, write, read }
     }
 
-    fn put(&mut self, at: u64, words: &[u64]) {
-        for (word, to) in words.iter().zip(self.memory[at as usize..].chunks_exact_mut(8)) {
-            to.copy_from_slice(&word.to_le_bytes());
-        }
-    }
-
-    /// The rows of two empty files with the limit 2^40, by docs/LAYOUT.md.
+    /// The rows of two empty files.
     fn put_files(&mut self) {
         let files = NAMES.len() as u64;
-        let node_rows = 192 + 8 * CHUNKS;
-        let entry_rows = node_rows + 40 * ROWS;
-        // rows in use, and the next node
-        self.put(32, &[files + 1, files, 0, files + 1]);
-        // node 0 is a directory with links 1 and as many entries as files
-        self.put(node_rows, &[0, 0, 1, files, 0]);
+        self.volume.put_used(files + 1, files);
+        self.volume.put_directory(ROOT, files);
         for (node, name) in (FILE..).zip(NAMES) {
-            // a regular file with a limit flag, links 1, size 0
-            self.put(node_rows + 40 * node, &[node, 0x0101, 1, 0, FILE_LIMIT]);
-            // parent, node, index and name length, name
-            self.put(entry_rows + 280 * (node - 1), &[0, node, 1 << 32 | node, name as u64]);
+            self.volume.put_file(node);
+            self.volume.put_entry(node - FILE, ROOT, node, node, &[name]);
         }
     }
 
     fn ask_write(&mut self, write: Write, node: u64, offset: u64, bytes: &[u8]) -> Answer {
-        let (memory, mut count) = (&mut self.memory, 0);
+        let (memory, mut count) = (&mut self.volume.memory, 0);
         let number = unsafe { write(memory.as_mut_ptr(), memory.len(), node, offset, bytes.as_ptr(), bytes.len(), &mut count) };
         (number, count)
     }
@@ -106,12 +87,9 @@ impl Proved {
 
 impl Side for Proved {
     fn renew(&mut self, others: u64) {
-        self.memory.fill(0);
-        let (memory, length) = (self.memory.as_mut_ptr(), self.memory.len());
-        assert_eq!(unsafe { lentilraft_new_volume(memory, length, ROWS, ROWS, CHUNKS, self.chunk) }, 0);
+        self.volume.renew();
         self.put_files();
-        // what the calls without the check ask for; they keep it so
-        assert_eq!(unsafe { lentilraft_check(self.memory.as_ptr(), length) }, 0);
+        self.volume.assert_sound();
         for index in 0..others {
             assert_eq!(self.ask_write(unchecked_write, OTHER, index * self.chunk, &[1]), (0, 1));
         }
@@ -122,7 +100,7 @@ impl Side for Proved {
     }
 
     fn read(&mut self, place: &Place, buffer: &mut [u8]) -> Answer {
-        let (memory, mut count) = (&self.memory, 0);
+        let (memory, mut count) = (&self.volume.memory, 0);
         let number = unsafe { (self.read)(memory.as_ptr(), memory.len(), FILE, place.offset, buffer.as_mut_ptr(), buffer.len(), &mut count) };
         (number, count)
     }
