@@ -1,12 +1,11 @@
--- The scope's boundary rows P1 to P7 hold of the calls' definitions, in every volume that they can start from.
+-- The scope's boundary rows P1 to P7, of the calls' definitions on a volume, in every volume that they can start from.
 -- Assumes nothing.
 use mathlib.Core.Path.{_≡_, refl, sym, ap, _∙_, subst}
-use mathlib.Core.Bool.{true, false}
-use mathlib.Core.List.{List, [], _∷_, map}
+use mathlib.Core.Bool.{false}
+use mathlib.Core.List.{List, [], _∷_}
 use mathlib.Core.Option.{some}
-use Prim.Native.Nat.{ℕ, _+_, _≤_, _<_}
+use Prim.Native.Nat.{ℕ, _+_, _^_, _≤_, _<_}
 use native.Mathlib.Omega.{arith}
-use lib.Dec.{eqb}
 use lib.ListN.{length, take, length-take}
 use lib.Seq.{take-suc-set}
 use borrow.Author.Tests.{eq-eqb, ne-eqb, lt-ltb, le-ltb}
@@ -18,13 +17,15 @@ use Rattle.words.proofs.Written.{over-at}
 use Rattle.types.specs.Sizes.{mostSize}
 use Rattle.types.specs.Outcomes.{done}
 use Rattle.types.specs.Nodes.{isDirectory, fileLimit}
+use Rattle.types.specs.declared.Answer.the-variants.{Done, Refused}
+use Rattle.types.specs.declared.Error.the-variants.{FileTooLarge}
 use Rattle.types.specs.declared.FileType.the-variants.{RegularFile}
 use Rattle.types.specs.declared.NodeRecord.{NodeRecord}
 use Rattle.volume.specs.declared.ChunkRow.{ChunkRow}
-use Rattle.volume.specs.Volume.{Store, Volume, withAllocator, withChunks, withBytes, withStore, onNames}
+use Rattle.volume.specs.Volume.{Store, Volume, withAllocator, withChunks, withBytes, onNames}
 use Rattle.volume.specs.Framed.{Fits}
 use Rattle.volume.specs.Search.{pairBefore}
-use Rattle.volume.specs.Sound.{node, roundUp, Good}
+use Rattle.volume.specs.Sound.{node, roundUp}
 use Rattle.volume.specs.Steps.{Step, becomes, withNode}
 use Rattle.allocator.specs.Allocator.{free, allocate, release, released}
 use Rattle.store.proofs.SizeSet.{unused}
@@ -33,7 +34,7 @@ use Rattle.tables.specs.OneRow.{sized, chunk}
 use Rattle.store.specs.Content.{byteAt, bytesFrom}
 use Rattle.store.specs.Cut.{goes, cutFrom, cramped, tailZeroed, shrunk}
 use Rattle.store.specs.Room.{room, missing, holes}
-use Rattle.files.specs.Boundary.{Start, row, P1, P2, P3, P4, P5, P6, P7}
+use Rattle.files.specs.Boundary.{Start, row}
 use Rattle.store.specs.Written.{writeChunks, writeChunk, put, putFor, written}
 use Rattle.store.specs.Taken.{ensured, ensuredFor, taken}
 use Rattle.files.specs.Write.{write, writeFile}
@@ -70,9 +71,6 @@ module _ (n : ℕ) (r : NodeRecord) (v : Volume) (s : Start n r v) where
     chunks = unused (v .store) (s .good .stored) (s .unused) .0 i;
     bytes = v .store .bytes;
   })
-
-  start-shape : withStore (shape (v .store) 0 [] (v .store .bytes)) v ≡ v
-  start-shape = ap (λ t. withStore t v) start-store
 
   area : 65536 ≤ length (v .store .bytes)
   area = omega (arith, s .fits .store .long)
@@ -121,63 +119,26 @@ module _ (n : ℕ) (r : NodeRecord) (v : Volume) (there : node n (v .names) ≡ 
       let i : r .node ≡ n = node-is n (v .names) r there in
       rw (there, i) (sym (pick-false _ _ _ _ not-directory (pick-false _ _ _ _ (le-ltb _ _ l) (pick-true _ _ _ _ (lt-ltb _ _ h) (pick-false _ _ _ _ e refl)))))
 
--- what holds of any three bytes
-three : (P : List ℕ → Type 0) → ((a b c : ℕ) → P (a ∷ b ∷ c ∷ [])) → (bs : List ℕ) → length bs ≡ 3 → P bs
-three P f [] h = absurd (omega arith)
-three P f (a ∷ []) h = absurd (omega arith)
-three P f (a ∷ b ∷ []) h = absurd (omega arith)
-three P f (a ∷ b ∷ c ∷ []) h = f a b c
-three P f (a ∷ b ∷ c ∷ d ∷ l) h = absurd (omega arith)
-
 module _ (n : ℕ) (r : NodeRecord) (v : Volume) (s : Start n r v) where
-  abbrev u : Volume
-  u = withStore (shape (v .store) 0 [] (v .store .bytes)) v
+  -- what holds of the store in its parts holds of the store
+  parted : (P : Store → Type 0) → P (shape (v .store) 0 [] (v .store .bytes)) → P (v .store)
+  parted P h = subst P (start-store n r v s) h
 
-  its-row : node n (u .names) ≡ some r
-  unfolding node
-  its-row = s .there
-
-  two-left : 2 ≤ room (u .store)
+  two-left : 2 ≤ room (v .store)
   unfolding room
-  two-left = omega (arith, s .room, area n r v s)
+  two-left = parted (λ t. 2 ≤ room t) (omega (arith, s .room, area n r v s))
 
   limit : fileLimit (r .limit) ≡ mostSize
   limit = rw (s .unlimited) refl
 
-  -- ---- three bytes, the first one the last of a chunk
-
-  module _ (a b c : ℕ) where
-    abbrev bytes : List ℕ
-    bytes = a ∷ b ∷ c ∷ []
-
-    two-written : written n 16383 bytes (u .store) ≡ shape (v .store) 32768 (row n 0 0 ∷ row n 1 16384 ∷ []) (written n 16383 bytes (u .store) .bytes)
-    unfolding written writeChunks
-    two-written = rw (first n 16383 bytes (v .store) 0 (v .store .bytes)) (second n 16383 bytes (v .store) (writeChunk n 16383 bytes 0 (u .store) .bytes))
-
-    two-holes : holes n 16383 3 (u .store) ≡ 2
-    unfolding holes missing chunk find
-    two-holes = refl
-
-    writes-two : write n 16383 bytes u ≡ becomes 3 (wrote n 16383 bytes r u)
-    writes-two = writes n r u its-row (s .file) 16383 bytes (λ e. omega arith) (omega (arith, limit)) (omega (arith, two-holes, two-left))
-
-    p1-here : P1 n r u bytes
-    p1-here =
-        let e : writtenSize 16383 bytes r ≡ 16386 = omega (arith, s .empty) in
-        rw writes-two (
-          refl,
-          ap (λ (t : Store). t .chunks) two-written,
-          node-here n (sized (writtenSize 16383 bytes r)) (λ a. refl) r (u .names) its-row ∙ ap (λ (k : ℕ). some (sized k r)) e,
-        )
-
-  -- ---- the two chunks cut to one
+  -- ---- two chunks cut to one
 
   module _ (area : List ℕ) where
     abbrev full : Volume
     full = reshaped n 16386 (shape (v .store) 32768 (row n 0 0 ∷ row n 1 16384 ∷ []) area) v
 
     full-row : node n (full .names) ≡ some (sized 16386 r)
-    full-row = node-here n (sized 16386) (λ a. refl) r (u .names) its-row
+    full-row = node-here n (sized 16386) (λ a. refl) r (v .names) (s .there)
 
     full-frees : cramped n 16383 (full .store) ≡ false
     unfolding cramped both only goes roundUp pick
@@ -224,89 +185,104 @@ module _ (n : ℕ) (r : NodeRecord) (v : Volume) (s : Start n r v) where
     unfolding read readFile onFile onRow readCount pick over release
     reads h = rw (again-row, s .file, number n r v s, zeros-again h) refl
 
-  module _ (a b c : ℕ) where
-    abbrev filled : List ℕ
-    filled = written n 16383 (bytes a b c) (u .store) .bytes
+  -- ---- three bytes, the first one the last of a chunk
 
-    its-full : write n 16383 (bytes a b c) u .after ≡ full filled
+  module _ (bs : List ℕ) (three : length bs ≡ 3) where
+    abbrev filled : List ℕ
+    filled = written n 16383 bs (v .store) .bytes
+
+    two-written : written n 16383 bs (v .store) ≡ shape (v .store) 32768 (row n 0 0 ∷ row n 1 16384 ∷ []) filled
+    unfolding written writeChunks
+    two-written =
+        parted (λ t. written n 16383 bs t ≡ shape (v .store) 32768 (row n 0 0 ∷ row n 1 16384 ∷ []) (written n 16383 bs t .bytes))
+        (rw (three, first n 16383 bs (v .store) 0 (v .store .bytes)) (second n 16383 bs (v .store) (writeChunk n 16383 bs 0 (shape (v .store) 0 [] (v .store .bytes)) .bytes)))
+
+    two-holes : holes n 16383 (length bs) (v .store) ≡ 2
+    unfolding holes missing chunk find
+    two-holes = rw three (parted (λ t. holes n 16383 3 t ≡ 2) refl)
+
+    writes-two : write n 16383 bs v ≡ becomes (length bs) (wrote n 16383 bs r v)
+    writes-two = writes n r v (s .there) (s .file) 16383 bs (λ e. omega (arith, three)) (omega (arith, three, limit)) (omega (arith, two-holes, two-left))
+
+    two-size : writtenSize 16383 bs r ≡ 16386
+    two-size = omega (arith, three, s .empty)
+
+    -- write 3 bytes at 16,383, first in the volume: pointers 0 and 16,384, size 16,386
+    pub p1 : (write n 16383 bs v .answer ≡ Done 3) × (write n 16383 bs v .after .store .chunks ≡ row n 0 0 ∷ row n 1 16384 ∷ []) × (node n (write n 16383 bs v .after .names) ≡ some (sized 16386 r))
+    p1 =
+        rw writes-two (
+          ap Done three,
+          ap (λ (t : Store). t .chunks) two-written,
+          node-here n (sized (writtenSize 16383 bs r)) (λ a. refl) r (v .names) (s .there) ∙ ap (λ (k : ℕ). some (sized k r)) two-size,
+        )
+
+    its-full : write n 16383 bs v .after ≡ full filled
     its-full =
-        let e : writtenSize 16383 (bytes a b c) r ≡ 16386 = omega (arith, s .empty) in
-        ap (λ (t : Step). t .after) (writes-two a b c)
-        ∙ ap (λ (t : Store). reshaped n (writtenSize 16383 (bytes a b c) r) t v) (two-written a b c)
-        ∙ ap (λ (k : ℕ). reshaped n k (shape (v .store) 32768 (row n 0 0 ∷ row n 1 16384 ∷ []) filled) v) e
+        ap (λ (t : Step). t .after) writes-two
+        ∙ ap (λ (t : Store). reshaped n (writtenSize 16383 bs r) t v) two-written
+        ∙ ap (λ (k : ℕ). reshaped n k (shape (v .store) 32768 (row n 0 0 ∷ row n 1 16384 ∷ []) filled) v) two-size
 
     long : 16383 ≤ length filled
-    long =
-        let e = sym (start-shape n r v s) in
-        let k : Fits (full filled) = subst Fits its-full (write-kept n 16383 (bytes a b c) u (subst Fits e (s .fits)) (subst Good e (s .good)) .0) in
-        omega (arith, k .store .long)
+    long = let k : Fits (full filled) = subst Fits its-full (write-kept n 16383 bs v (s .fits) (s .good) .0) in omega (arith, k .store .long)
 
-    p2-here : P2 n u (bytes a b c)
-    p2-here = rw (its-full, cuts filled) (refl, word-free filled)
+    -- then resize to 16,383: free word 16 is 16,384
+    pub p2 : (resize n 16383 (write n 16383 bs v .after) .answer ≡ Done 0) × (free (resize n 16383 (write n 16383 bs v .after) .after .store .allocator) ≡ 16384 ∷ [])
+    p2 = rw (its-full, cuts filled) (refl, word-free filled)
 
-    p3-here : P3 n u (bytes a b c)
-    p3-here = rw (its-full, cuts filled, grows-again filled) (reads filled long)
+    -- back to 16,386, read there: 0 0 0
+    pub p3 : read n 16383 (resize n 16386 (resize n 16383 (write n 16383 bs v .after) .after) .after) (1 ∷ 1 ∷ 1 ∷ []) ≡ done 3 (0 ∷ 0 ∷ 0 ∷ [])
+    p3 = rw (its-full, cuts filled, grows-again filled) (reads filled long)
+
+    -- after the write, empty write at u64::MAX: 0, size kept (16,386)
+    pub p4 : (write n 18446744073709551615 [] (write n 16383 bs v .after) .answer ≡ Done 0) × (write n 18446744073709551615 [] (write n 16383 bs v .after) .after ≡ write n 16383 bs v .after)
+        × (node n (write n 18446744073709551615 [] (write n 16383 bs v .after) .after .names) ≡ some (sized 16386 r))
+    p4 =
+        let there : node n (write n 16383 bs v .after .names) ≡ some (sized 16386 r) = p1 .2 in
+        rw (writes-none n (sized 16386 r) (write n 16383 bs v .after) there (s .file) 18446744073709551615) (refl, refl, there)
 
   -- ---- one byte at the end of all sizes
 
-  module _ (b : ℕ) where
-    one-written : written n 1099511627775 (b ∷ []) (u .store) ≡ shape (v .store) 16384 (row n 67108863 0 ∷ []) (written n 1099511627775 (b ∷ []) (u .store) .bytes)
+  module _ (bs : List ℕ) (one : length bs ≡ 1) where
+    -- one byte at 2^40: 5
+    pub p5 : (write n (2 ^ 40) bs v .answer ≡ Refused FileTooLarge) × (write n (2 ^ 40) bs v .after ≡ v)
+    unfolding write writeFile onFile onRow pick
+    p5 = rw (s .there, s .file, s .unlimited, one) (refl, refl)
+
+    one-written : written n 1099511627775 bs (v .store) ≡ shape (v .store) 16384 (row n 67108863 0 ∷ []) (written n 1099511627775 bs (v .store) .bytes)
     unfolding written writeChunks
-    one-written = first n 1099511627775 (b ∷ []) (v .store) 67108863 (v .store .bytes)
+    one-written =
+        parted (λ t. written n 1099511627775 bs t ≡ shape (v .store) 16384 (row n 67108863 0 ∷ []) (written n 1099511627775 bs t .bytes))
+        (rw one (first n 1099511627775 bs (v .store) 67108863 (v .store .bytes)))
 
-    one-hole : holes n 1099511627775 1 (u .store) ≡ 1
+    one-hole : holes n 1099511627775 (length bs) (v .store) ≡ 1
     unfolding holes missing chunk find
-    one-hole = refl
+    one-hole = rw one (parted (λ t. holes n 1099511627775 1 t ≡ 1) refl)
 
-    p6-here : P6 n u b
-    p6-here =
-        rw (writes n r u its-row (s .file) 1099511627775 (b ∷ []) (λ e. omega arith) (omega (arith, limit)) (omega (arith, one-hole, two-left)))
-        (refl, ap (λ (t : Store). t .chunks) one-written)
+    -- at 2^40 - 1: index 67,108,863
+    pub p6 : (write n 1099511627775 bs v .answer ≡ Done 1) × (write n 1099511627775 bs v .after .store .chunks ≡ row n 67108863 0 ∷ [])
+    p6 =
+        rw (writes n r v (s .there) (s .file) 1099511627775 bs (λ e. omega (arith, one)) (omega (arith, one, limit)) (omega (arith, one-hole, two-left)))
+        (ap Done one, ap (λ (t : Store). t .chunks) one-written)
 
   -- ---- grown, then cut
 
   abbrev grown : Volume
-  grown = onNames (withNode n (sized 40000)) u
+  grown = onNames (withNode n (sized 40000)) v
 
   grown-row : node n (grown .names) ≡ some (sized 40000 r)
-  grown-row = node-here n (sized 40000) (λ a. refl) r (u .names) its-row
+  grown-row = node-here n (sized 40000) (λ a. refl) r (v .names) (s .there)
 
-  grown-room : cramped n 20000 (grown .store) ≡ false
-  unfolding cramped both only roundUp pick chunk find room
-  grown-room = le-ltb (room (u .store)) 1 (omega (arith, two-left))
+  grown-room : cramped n 20000 (v .store) ≡ false
+  unfolding cramped both only roundUp pick chunk find
+  grown-room = parted (λ t. 1 ≤ room t → cramped n 20000 t ≡ false) (le-ltb _ 1) (omega (arith, two-left))
 
-  one-left : shrunk n 20000 (grown .store) .chunks ≡ row n 1 0 ∷ []
+  one-left : shrunk n 20000 (v .store) .chunks ≡ row n 1 0 ∷ []
   unfolding shrunk tailZeroed cutFrom released only roundUp pick
-  one-left = ap (λ (t : Store). t .chunks) (first n 20000 (zeros 12768) (grown .store) 1 (v .store .bytes))
+  one-left = parted (λ t. shrunk n 20000 t .chunks ≡ row n 1 0 ∷ []) (ap (λ (t : Store). t .chunks) (first n 20000 (zeros 12768) (v .store) 1 (v .store .bytes)))
 
-  p7-here : P7 n u
-  p7-here =
-      let e : resize n 40000 u ≡ becomes 0 grown = grows n r u its-row (s .file) 40000 (omega (arith, limit)) (omega (arith, s .empty)) in
-      let k : resize n 20000 grown ≡ becomes 0 (reshaped n 20000 (shrunk n 20000 (grown .store)) grown) = shrinks n (sized 40000 r) grown grown-row (s .file) 20000 (omega (arith, limit)) (omega arith) grown-room in
+  -- empty file to 40,000, then 20,000: one row, index 1
+  pub p7 : (resize n 20000 (resize n 40000 v .after) .answer ≡ Done 0) × (resize n 20000 (resize n 40000 v .after) .after .store .chunks ≡ row n 1 0 ∷ [])
+  p7 =
+      let e : resize n 40000 v ≡ becomes 0 grown = grows n r v (s .there) (s .file) 40000 (omega (arith, limit)) (omega (arith, s .empty)) in
+      let k : resize n 20000 grown ≡ becomes 0 (reshaped n 20000 (shrunk n 20000 (v .store)) grown) = shrinks n (sized 40000 r) grown grown-row (s .file) 20000 (omega (arith, limit)) (omega arith) grown-room in
       rw (e, k) (refl, one-left)
-
--- ---- the rows
-
-pub p1 : (n : ℕ) (r : NodeRecord) (v : Volume) (bs : List ℕ) → Start n r v → length bs ≡ 3 → P1 n r v bs
-p1 n r v bs s h = subst (λ w. P1 n r w bs) (start-shape n r v s) (three (P1 n r (u n r v s)) (p1-here n r v s) bs h)
-
-pub p2 : (n : ℕ) (r : NodeRecord) (v : Volume) (bs : List ℕ) → Start n r v → length bs ≡ 3 → P2 n v bs
-p2 n r v bs s h = subst (λ w. P2 n w bs) (start-shape n r v s) (three (P2 n (u n r v s)) (p2-here n r v s) bs h)
-
-pub p3 : (n : ℕ) (r : NodeRecord) (v : Volume) (bs : List ℕ) → Start n r v → length bs ≡ 3 → P3 n v bs
-p3 n r v bs s h = subst (λ w. P3 n w bs) (start-shape n r v s) (three (P3 n (u n r v s)) (p3-here n r v s) bs h)
-
-pub p4 : (n : ℕ) (r : NodeRecord) (v : Volume) (bs : List ℕ) → Start n r v → length bs ≡ 3 → P4 n r v bs
-p4 n r v bs s h =
-    let there : node n (write n 16383 bs v .after .names) ≡ some (sized 16386 r) = p1 n r v bs s h .2 in
-    rw (writes-none n (sized 16386 r) (write n 16383 bs v .after) there (s .file) 18446744073709551615) (refl, refl, there)
-
-pub p5 : (n : ℕ) (r : NodeRecord) (v : Volume) (b : ℕ) → Start n r v → P5 n v b
-unfolding write writeFile onFile onRow pick
-p5 n r v b s = rw (s .there, s .file, s .unlimited) (refl, refl)
-
-pub p6 : (n : ℕ) (r : NodeRecord) (v : Volume) (b : ℕ) → Start n r v → P6 n v b
-p6 n r v b s = subst (λ w. P6 n w b) (start-shape n r v s) (p6-here n r v s b)
-
-pub p7 : (n : ℕ) (r : NodeRecord) (v : Volume) → Start n r v → P7 n v
-p7 n r v s = subst (λ w. P7 n w) (start-shape n r v s) (p7-here n r v s)

@@ -82,7 +82,7 @@ module _ (n : ℕ) (m : Limit) (l : List ℕ) (w : laid (shown l) ≡ l) (a : As
 -- ---- what it leaves
 
 -- what holds of a refusal, and of the row of a file changed to a limit that it keeps, holds of the call
-limit-cases : (P : Step → Type 0) (n : ℕ) (m : Limit) (v : Volume) → ((e : Error) → P (stays e v))
+pub limit-cases : (P : Step → Type 0) (n : ℕ) (m : Limit) (v : Volume) → ((e : Error) → P (stays e v))
     → ((r : NodeRecord) → node n (v .names) ≡ some r → (r .kind ≡ Directory → ⊥) → limitWord m ≤ mostSize → r .size ≤ fileLimit m → P (becomes 0 (onNames (withNode n (limited m)) v))) → P (setLimit n m v)
 unfolding setLimit limitFile pick
 limit-cases P n m v refusal accepted = go (setLimit n m v) (on-file n (v .names) (λ e. stays e v) (limitFile m v))

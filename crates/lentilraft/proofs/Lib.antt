@@ -5,4 +5,3 @@ pub mod Kept
 pub mod Refusal
 pub mod NewVolume
 pub mod EntryGiven
-pub mod BoundaryStart

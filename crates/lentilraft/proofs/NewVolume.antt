@@ -26,12 +26,12 @@ use Rattle.lentilraft.proofs.Door.{report-full}
 use Rattle.lentilraft.proofs.Reported.{new-reported}
 
 -- what a new volume that was made has passed, and its bytes
-record Made (n e c s : ℕ) (l made : List ℕ) : Type 0 where
-  placed : Placed n e c (length l)
-  accepted : acceptedSize s ≡ true
-  bytes : made ≡ freshLaid n e c s (length l)
+pub record Made (n e c s : ℕ) (l made : List ℕ) : Type 0 where
+  pub placed : Placed n e c (length l)
+  pub accepted : acceptedSize s ≡ true
+  pub bytes : made ≡ freshLaid n e c s (length l)
 
-new-made : (n e c s : ℕ) (l : List ℕ) (k : ℕ) → newVolume n e c s l .answer ≡ Done k → Made n e c s l (newVolume n e c s l .bytes)
+pub new-made : (n e c s : ℕ) (l : List ℕ) (k : ℕ) → newVolume n e c s l .answer ≡ Done k → Made n e c s l (newVolume n e c s l .bytes)
 unfolding newVolume pick
 new-made n e c s l k = go (placed n e c (length l)) (says-placed n e c (length l)) (acceptedSize s) refl
   where

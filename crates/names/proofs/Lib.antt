@@ -6,5 +6,6 @@ pub mod Linked
 pub mod TwoRows
 pub mod EntryKeys
 pub mod Unlinked
+pub mod UnlinkedNames
 pub mod Removed
 pub mod EntryLaws

@@ -55,63 +55,70 @@ pub record Unlinkable (a : Names) (e : Entry) : Type 0 where
   pub parent : node (e .parent) a ≡ some holder
   pub directory : holder .kind ≡ Directory
 
--- an unlink is refused, or such an entry goes
-pub data Unlinks (a : Names) : NamesStep → Type 0 where
-  refuses : (e : Error) → Unlinks a (remain e a)
-  unlinks : (e : Entry) → Unlinkable a e → Unlinks a (turn (e .node) (unlinked e a))
+-- a path leads to it: the parts of the path, followed from the start, end with it
+pub record Leads (start : ℕ) (path : List ℕ) (a : Names) (e : Entry) : Type 0 where
+  pub names : List (List ℕ)
+  pub cut : cutPath path ≡ parts names
+  pub found : ℕ
+  pub walk : walkFrom start a names ≡ reached found (some e)
 
-module _ (a : Names) (g : Named a) where
+-- an unlink is refused, or such an entry goes: the one that the path leads to
+pub data Unlinks (start : ℕ) (path : List ℕ) (a : Names) : NamesStep → Type 0 where
+  refuses : (e : Error) → Unlinks start path a (remain e a)
+  unlinks : (e : Entry) → Leads start path a e → Unlinkable a e → Unlinks start path a (turn (e .node) (unlinked e a))
+
+module _ (start : ℕ) (path : List ℕ) (a : Names) (g : Named a) where
   -- its parent is a directory
   its-parent : (e : Entry) → InPlace a e → DirectoryThere (node (e .parent) a)
   its-parent e there = found-each (isEntry (e .parent) (e .index)) (λ f. DirectoryThere (node (f .parent) a)) (a .entries) e (g .parents) there
 
   -- it goes, once its node's row has passed the checks
-  with-row : (e : Entry) → InPlace a e → (r : NodeRecord) → node (e .node) a ≡ some r → (r .kind ≡ Directory → r .size ≡ 0) → Unlinks a (turn (e .node) (unlinked e a))
-  with-row e there r t h = go (node (e .parent) a) refl (its-parent e there)
+  with-row : (e : Entry) → Leads start path a e → InPlace a e → (r : NodeRecord) → node (e .node) a ≡ some r → (r .kind ≡ Directory → r .size ≡ 0) → Unlinks start path a (turn (e .node) (unlinked e a))
+  with-row e l there r t h = go (node (e .parent) a) refl (its-parent e there)
     where
-      go : (o : Option NodeRecord) → node (e .parent) a ≡ o → DirectoryThere o → Unlinks a (turn (e .node) (unlinked e a))
+      go : (o : Option NodeRecord) → node (e .parent) a ≡ o → DirectoryThere o → Unlinks start path a (turn (e .node) (unlinked e a))
       go none q k = absurd k
-      go (some d) q k = unlinks e (record { there = there; row = r; target = t; empty = h; holder = d; parent = q; directory = k })
+      go (some d) q k = unlinks e l (record { there = there; row = r; target = t; empty = h; holder = d; parent = q; directory = k })
 
   -- the checks of its node's row
-  from-entry : (want : Expected) (opens : ℕ) (e : Entry) → InPlace a e → Unlinks a (unlinkNode want opens a e (node (e .node) a))
+  from-entry : (want : Expected) (opens : ℕ) (e : Entry) → Leads start path a e → InPlace a e → Unlinks start path a (unlinkNode want opens a e (node (e .node) a))
   unfolding unlinkNode pick
-  from-entry want opens e there = go (node (e .node) a) refl
+  from-entry want opens e l there = go (node (e .node) a) refl
     where
       checks : (r : NodeRecord) → node (e .node) a ≡ some r → (b1 b2 b3 b4 : Bool) → Says ((r .kind ≡ Directory) × (0 < r .size)) b2
-          → Unlinks a (pick b1 (remain IsDirectory a) (pick b2 (remain DirectoryNotEmpty a) (pick b3 (remain NotDirectory a) (pick b4 (remain Busy a) (turn (e .node) (unlinked e a))))))
+          → Unlinks start path a (pick b1 (remain IsDirectory a) (pick b2 (remain DirectoryNotEmpty a) (pick b3 (remain NotDirectory a) (pick b4 (remain Busy a) (turn (e .node) (unlinked e a))))))
       checks r t true b2 b3 b4 s = refuses IsDirectory
       checks r t false true b3 b4 s = refuses DirectoryNotEmpty
       checks r t false false true b4 s = refuses NotDirectory
       checks r t false false false true s = refuses Busy
-      checks r t false false false false (fails s) = with-row e there r t (λ k. let z : 0 < r .size → ⊥ = λ l. s (k, l) in omega arith)
+      checks r t false false false false (fails s) = with-row e l there r t (λ k. let z : 0 < r .size → ⊥ = λ y. s (k, y) in omega arith)
 
-      go : (o : Option NodeRecord) → node (e .node) a ≡ o → Unlinks a (unlinkNode want opens a e o)
+      go : (o : Option NodeRecord) → node (e .node) a ≡ o → Unlinks start path a (unlinkNode want opens a e o)
       go none t = refuses NoSuchEntry
       go (some r) t =
           checks r t (both (isDirectory (r .kind)) (wantsFile want)) (both (isDirectory (r .kind)) (ltb 0 (r .size))) (both (not (isDirectory (r .kind))) (wantsDirectory want)) (both (ltb 0 opens) (eqb (r .links) 1))
           (says-both (says-directory (r .kind)) (says-ltb 0 (r .size)))
 
   -- what a walk reached
-  from-walk : (want : Expected) (opens : ℕ) (w : Walk) → EndsWith (InPlace a) w → Unlinks a (unlinkReached want opens a w)
+  from-walk : (want : Expected) (opens : ℕ) (ps : List (List ℕ)) → cutPath path ≡ parts ps → (w : Walk) → walkFrom start a ps ≡ w → EndsWith (InPlace a) w → Unlinks start path a (unlinkReached want opens a w)
   unfolding unlinkReached
-  from-walk want opens (reached n (some e)) h = from-entry want opens e h
-  from-walk want opens (reached n none) h = refuses PathNotPermitted
-  from-walk want opens (stopped e) h = refuses e
+  from-walk want opens ps c (reached n (some e)) q h = from-entry want opens e (record { names = ps; cut = c; found = n; walk = q }) h
+  from-walk want opens ps c (reached n none) q h = refuses PathNotPermitted
+  from-walk want opens ps c (stopped e) q h = refuses e
 
 -- every unlink is one of these
-pub unlink-cases : (start : ℕ) (path : List ℕ) (want : Expected) (opens : ℕ) (a : Names) → Named a → Unlinks a (unlink start path want opens a)
+pub unlink-cases : (start : ℕ) (path : List ℕ) (want : Expected) (opens : ℕ) (a : Names) → Named a → Unlinks start path a (unlink start path want opens a)
 unfolding unlink onCutting pick
-unlink-cases start path want opens a g = go (cutPath path)
+unlink-cases start path want opens a g = go (cutPath path) refl
   where
-    from-parts : (ps : List (List ℕ)) (b : Bool) → Unlinks a (pick b (remain PathNotPermitted a) (unlinkReached want opens a (walkFrom start a ps)))
-    from-parts ps true = refuses PathNotPermitted
-    from-parts ps false = from-walk a g want opens (walkFrom start a ps) (walk-from-ends (InPlace a) start a ps (entry-by-key (a .entries) (g .entryOrder)))
+    from-parts : (ps : List (List ℕ)) → cutPath path ≡ parts ps → (b : Bool) → Unlinks start path a (pick b (remain PathNotPermitted a) (unlinkReached want opens a (walkFrom start a ps)))
+    from-parts ps c true = refuses PathNotPermitted
+    from-parts ps c false = from-walk start path a g want opens ps c (walkFrom start a ps) refl (walk-from-ends (InPlace a) start a ps (entry-by-key (a .entries) (g .entryOrder)))
 
-    go : (c : Cutting) → Unlinks a (onCutting (λ e. remain e a) (λ ps. pick (eqb (length ps) 0) (remain PathNotPermitted a) (unlinkReached want opens a (walkFrom start a ps))) c)
-    go (parts ps) = from-parts ps (eqb (length ps) 0)
-    go notPermitted = refuses PathNotPermitted
-    go tooLong = refuses InvalidArgument
+    go : (c : Cutting) → cutPath path ≡ c → Unlinks start path a (onCutting (λ e. remain e a) (λ ps. pick (eqb (length ps) 0) (remain PathNotPermitted a) (unlinkReached want opens a (walkFrom start a ps))) c)
+    go (parts ps) q = from-parts ps q (eqb (length ps) 0)
+    go notPermitted q = refuses PathNotPermitted
+    go tooLong q = refuses InvalidArgument
 
 -- ---- the names without it
 
@@ -290,22 +297,22 @@ module _ (start : ℕ) (path : List ℕ) (want : Expected) (opens : ℕ) (a : Na
   pub unlink-kept : NamesFits a → Named a → NamesFits (unlink start path want opens a .after) × Named (unlink start path want opens a .after)
   unlink-kept f g = go (unlink start path want opens a) (unlink-cases start path want opens a g)
     where
-      go : (s : NamesStep) → Unlinks a s → NamesFits (s .after) × Named (s .after)
+      go : (s : NamesStep) → Unlinks start path a s → NamesFits (s .after) × Named (s .after)
       go s (refuses e) = (f, g)
-      go s (unlinks e u) = (unlinked-fits a g e u f, unlinked-named a g e u)
+      go s (unlinks e l u) = (unlinked-fits a g e u f, unlinked-named a g e u)
 
   -- chunks keep their owners
   pub unlink-owned : (s : Store) → Named a → ChunksOwned a s → ChunksOwned (unlink start path want opens a .after) s
   unlink-owned s g o = go (unlink start path want opens a) (unlink-cases start path want opens a g)
     where
-      go : (t : NamesStep) → Unlinks a t → ChunksOwned (t .after) s
+      go : (t : NamesStep) → Unlinks start path a t → ChunksOwned (t .after) s
       go t (refuses e) = o
-      go t (unlinks e u) = unlinked-owned a g e u s o
+      go t (unlinks e l u) = unlinked-owned a g e u s o
 
   -- a refusal leaves the names as they were
   pub unlink-refused : (e : Error) → Named a → unlink start path want opens a .answer ≡ Refused e → unlink start path want opens a .after ≡ a
   unlink-refused e g = go (unlink start path want opens a) (unlink-cases start path want opens a g)
     where
-      go : (t : NamesStep) → Unlinks a t → t .answer ≡ Refused e → t .after ≡ a
+      go : (t : NamesStep) → Unlinks start path a t → t .answer ≡ Refused e → t .after ≡ a
       go t (refuses d) q = refl
-      go t (unlinks d u) q = let x : _≡_ {A = ℕ} 0 1 = cc in absurd (omega arith)
+      go t (unlinks d l u) q = let x : _≡_ {A = ℕ} 0 1 = cc in absurd (omega arith)

@@ -1,16 +1,17 @@
--- The scope's boundary rows on paths, P8 to P11, computed; and that `.` is no name.
+-- What the paths of the scope's boundary rows P8 to P11 are cut into, computed; that `a` and `b` are names, and `.` is none.
 -- Assumes nothing.
 use mathlib.Core.Path.{_≡_, refl}
-use mathlib.Core.Bool.{false}
+use mathlib.Core.Bool.{true, false}
 use mathlib.Core.List.{List, [], _∷_}
 use Prim.Native.Nat.{ℕ}
 use Rattle.words.specs.Rules.{pick, both, either, same}
-use Rattle.paths.specs.Path.{dot, cons, split, dropped, upward, walk, cutPath, noSlash, nameAllowed}
-use Rattle.paths.specs.Boundary.{path8, P8, P9, P10, P11}
+use Rattle.paths.specs.Path.{dot, parts, notPermitted, cons, split, dropped, upward, walk, cutPath, noSlash, nameAllowed}
+use Rattle.paths.specs.Boundary.{byteA, byteB, path8, path9, path10, path11}
 use Rattle.paths.specs.Bounds.{walkBounds, cutBounds}
 use Rattle.paths.specs.Shown.{cutNumber}
 
-pub p8 : P8
+-- `a/../..`: 8
+pub p8 : cutPath path8 ≡ notPermitted
 unfolding cutPath walk split cons dropped upward either both same pick
 p8 = refl
 
@@ -19,17 +20,30 @@ pub p8-number : (ss ls : List ℕ) → cutNumber (cutBounds path8 ss ls .cut) �
 unfolding cutBounds walkBounds split cons dropped upward either both same pick
 p8-number ss ls = refl
 
-pub p9 : P9
+-- `a/../b`: only `b`
+pub p9 : cutPath path9 ≡ parts ((byteB ∷ []) ∷ [])
 unfolding cutPath walk split cons dropped upward either both same pick
 p9 = refl
 
-pub p10 : P10
+-- `./a//b/`: parts a, b
+pub p10 : cutPath path10 ≡ parts ((byteA ∷ []) ∷ (byteB ∷ []) ∷ [])
 unfolding cutPath walk split cons dropped upward either both same pick
 p10 = refl
 
-pub p11 : P11
+-- `...`: a name
+pub p11 : (cutPath path11 ≡ parts (path11 ∷ [])) × (nameAllowed path11 ≡ true)
 unfolding cutPath walk split cons dropped upward either both same pick nameAllowed noSlash
 p11 = (refl, refl)
+
+-- ---- the names
+
+pub a-allowed : nameAllowed (byteA ∷ []) ≡ true
+unfolding nameAllowed noSlash both same
+a-allowed = refl
+
+pub b-allowed : nameAllowed (byteB ∷ []) ≡ true
+unfolding nameAllowed noSlash both same
+b-allowed = refl
 
 pub dot-not-allowed : nameAllowed (dot ∷ []) ≡ false
 unfolding nameAllowed noSlash both same

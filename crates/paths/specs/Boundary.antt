@@ -1,10 +1,8 @@
--- Believed: the scope's boundary rows on paths, P8 to P11, as statements of what a path is cut into.
+-- Believed: the paths of the scope's boundary rows P8 to P11. The rows stand in crates/sequences/specs/Boundary.antt.
 -- Assumes nothing.
-use mathlib.Core.Path.{_≡_}
-use mathlib.Core.Bool.{true}
 use mathlib.Core.List.{List, [], _∷_}
 use Prim.Native.Nat.{ℕ}
-use Rattle.paths.specs.Path.{parts, notPermitted, slash, dot, cutPath, nameAllowed}
+use Rattle.paths.specs.Path.{slash, dot}
 
 -- the bytes `a` and `b`
 abbrev pub byteA : ℕ
@@ -28,19 +26,3 @@ path10 = dot ∷ slash ∷ byteA ∷ slash ∷ slash ∷ byteB ∷ slash ∷ []
 -- `...`
 abbrev pub path11 : List ℕ
 path11 = dot ∷ dot ∷ dot ∷ []
-
--- `a/../..`: 8
-abbrev pub P8 : Type 0
-P8 = cutPath path8 ≡ notPermitted
-
--- `a/../b`: only `b` is looked up
-abbrev pub P9 : Type 0
-P9 = cutPath path9 ≡ parts ((byteB ∷ []) ∷ [])
-
--- `./a//b/`: parts a, b
-abbrev pub P10 : Type 0
-P10 = cutPath path10 ≡ parts ((byteA ∷ []) ∷ (byteB ∷ []) ∷ [])
-
--- `...`: a name
-abbrev pub P11 : Type 0
-P11 = (cutPath path11 ≡ parts (path11 ∷ [])) × (nameAllowed path11 ≡ true)

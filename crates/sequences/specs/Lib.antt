@@ -1,0 +1,10 @@
+pub mod Fs
+pub mod Show
+pub mod Calls
+pub mod Act
+pub mod Run
+pub mod Changing
+pub mod Saying
+pub mod GivenOut
+pub mod Boundary
+pub mod Demand
