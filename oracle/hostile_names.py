@@ -1,10 +1,13 @@
 #!/usr/bin/env python3
 """oracle/hostile_names.py [FOLDER]: puts runs of refused calls behind the Rust's runs in FOLDER/stdin and FOLDER/stdout
 (crates/name_vectors), with the scope's answers by plain_model.py: the Rust differs on most of them, or cannot judge them. Every refusal
-that calls from a new volume can reach stands at least twice, at its edge where it has one. Run it after oracle/make-vectors."""
+of every call stands at least twice, at its edge where it has one; those that calls from a new volume cannot reach, behind a poke. The sum of all
+bytes stands behind each line, so that a refused call shows that it changed none. Run it after oracle/make-vectors."""
+import collections
 import pathlib
-import subprocess
 import sys
+
+import plain_model as model
 
 HERE = pathlib.Path(__file__).resolve().parent
 END = "0"
@@ -23,8 +26,12 @@ def named(code, first, second, text, third=0):
     return hexed(code, first, second, len(text), third, *text)
 
 
+def tables(nodes, entries, chunks):
+    return 192 + 40 * nodes + 280 * entries + 32 * chunks
+
+
 def volume(nodes, entries, chunks, span=4096, area=65536):
-    return hexed(1, 192 + 40 * nodes + 280 * entries + 32 * chunks + area, nodes, entries, chunks, span)
+    return hexed(1, tables(nodes, entries, chunks) + area, nodes, entries, chunks, span)
 
 
 def read(node, offset, count):
@@ -67,6 +74,42 @@ def following(directory, index):
     return hexed(0xB, directory, index, 0, 0)
 
 
+def chunk_size(span):
+    return hexed(0xC, 0, span, 0, 0)
+
+
+def report(length):
+    return hexed(0xD, 0, 0, length, 7)
+
+
+def poke(at, piece):
+    return named(0xE, 0, at, piece)
+
+
+def poke_word(at, word):
+    return poke(at, word.to_bytes(8, "little"))
+
+
+class Breaking(str):
+    """A poke that leaves no sound volume."""
+
+
+CHECK = poke(0, b"")
+SUM = hexed(0xF, 0, 0, 0, 0)
+
+# where things stand in a volume whose tables have these rooms (docs/LAYOUT.md)
+ROOMS = (8, 8, 4)
+USED_CHUNKS, NEXT_NODE, MARKER, NEXT_POINTER, UNREAD = 48, 56, 64, 88, 96
+NODE_ROWS = 192 + 8 * ROOMS[2]
+ENTRY_ROWS = NODE_ROWS + 40 * ROOMS[0]
+AREA = tables(*ROOMS)
+LENGTH = AREA + 65536
+
+
+def poke_index(place, index):
+    return poke(ENTRY_ROWS + 280 * place + 16, index.to_bytes(4, "little"))
+
+
 BAD_NAMES = [b"", b".", b"..", b"/", b"a/b", b"a/", bytes(256), b"n" * 256]
 ODD_NAMES = [b"...", b"\x00", b"\xff\xfe", b" ", b"n" * 255, b".hidden"]
 
@@ -82,7 +125,7 @@ NAMES = (
     + [link(0, b"again", 7), link(0, b"root", 0), link(0, b"none", 99), link(0, b"n" * 256, 99)]
     + [following(1, 0), following(8, 1), following(99, 0), following(0, 2**32 - 1), following(7, 2), following(7, 0), following(7, 1)]
     + [read(0, 0, 1), read(7, 5, 3), write(0, 0, 1), write(7, 0, 0), resize(0, 1), resize(7, 0), limit(0, 5), limit(7, LARGEST)]
-    + [read(99, 0, 1), write(99, 0, 0), resize(99, 0), limit(99, 1), remove(99), remove(NEVER)]
+    + [read(99, 0, 1), write(99, 0, 0), resize(99, 0), limit(99, 1), write(NEVER, NEVER, 1), limit(NEVER, NEVER), remove(99), remove(NEVER)]
 )
 
 # Paths that are too long, not permitted, without a part, from a missing start, below a file, with long parts; and what unlink judges.
@@ -117,16 +160,106 @@ ROOM = (
 )
 
 
+# The next node is the greatest number, or one before it.
+LAST_NODE = (
+    [volume(*ROOMS), create(0, b"a"), create(0, b"folder", DIRECTORY), poke_word(NEXT_NODE, NEVER - 1), create(0, b"b"), create(0, b"c"), create(2, b"c", DIRECTORY)]
+    + [create(0, b"a"), create(0, b""), create(0, b"c", 3), create(1, b"c"), link(0, b"c", 1), write(NEVER - 1, 0, 5), find(0, b"b"), report(512)]
+    + [unlink(0, b"b"), remove(NEVER - 1), create(0, b"b"), poke_word(NEXT_NODE, 3), create(0, b"b"), Breaking(poke_word(NEXT_NODE, 3)), poke_word(NEXT_NODE, NEVER), create(2, b"d", SYMBOLIC_LINK), find(0, b"b")]
+)
+
+# The greatest index of a directory is the greatest number, or one before it.
+HIGHEST = 2**32 - 1
+LAST_INDEX = (
+    [volume(*ROOMS), create(0, b"a"), create(0, b"folder", DIRECTORY), create(2, b"in"), poke_index(1, HIGHEST - 1), create(0, b"b"), following(0, HIGHEST - 1), following(0, HIGHEST)]
+    + [create(0, b"c"), create(0, b"c", DIRECTORY), link(0, b"c", 1), link(0, b"d", 3), create(0, b"a"), link(0, b"b", 1), create(0, b"c", 3), link(0, b"c", 2), create(2, b"c")]
+    + [unlink(0, b"b"), link(0, b"c", 1), following(0, 3), create(0, b"d"), unlink(0, b"a"), create(0, b"d"), link(0, b"d", 1), poke_index(3, HIGHEST), create(2, b"e"), link(2, b"e", 1)]
+    + [poke_word(NEXT_NODE, NEVER), create(2, b"e"), create(0, b"e", DIRECTORY), link(2, b"e", 1), unlink(0, b"folder/c"), link(2, b"e", 1), following(2, 2)]
+    + [volume(4, 2, 4), create(0, b"a"), create(0, b"b"), poke(192 + 8 * 4 + 40 * 4 + 280 + 16, b"\xff" * 4), create(0, b"c"), link(0, b"c", 1), unlink(0, b"a"), link(0, b"c", 2), create(0, b"c"), unlink(0, b"b"), create(0, b"c")]
+)
+
+# Another chunk size: only while no pointer was given out, not even one that came back.
+SIZES = (
+    [volume(*ROOMS, 16384), create(0, b"a"), chunk_size(0), chunk_size(4095), chunk_size(8192), chunk_size(NEVER), chunk_size(4096), chunk_size(65536), chunk_size(16384), resize(1, LARGEST), chunk_size(4096), chunk_size(16384)]
+    + [write(1, 16383, 3), chunk_size(4096), chunk_size(65536), chunk_size(16384), chunk_size(0), unlink(0, b"a"), remove(1), report(600), chunk_size(4096), chunk_size(65536), chunk_size(16384), chunk_size(16385)]
+    + [volume(*ROOMS, 65536), chunk_size(4096), create(0, b"a"), write(1, 0, 4097), resize(1, 0), chunk_size(65536), chunk_size(4096), chunk_size(12288)]
+)
+
+# A report needs 512 bytes, however short its text is.
+REPORTS = [volume(*ROOMS), report(0), report(110), report(511), report(512), report(513), create(0, b"a"), write(1, 0, 5000), resize(1, 1), poke_word(NEXT_NODE, NEVER), report(511), report(512), report(4096)]
+
+# Every call, each one carried out on the volume before it is broken; and calls that have another reason to be refused, too.
+EVERY_CALL = (
+    [CHECK, read(1, 0, 9), write(1, 3, 2), write(1, 3, 0), resize(1, 4097), limit(1, LARGEST), create(0, b"new"), link(0, b"again", 1), unlink(0, b"gone"), remove(3), find(0, b"a"), following(0, 0), chunk_size(4096), report(512)]
+    + [read(99, 0, 1), write(0, 0, 1), resize(99, 0), limit(0, 1), create(99, b""), link(1, b"/", 0), unlink(0, b""), remove(0), find(99, b"/"), following(99, 0), chunk_size(1), report(0)]
+)
+WHOLE = [volume(*ROOMS), create(0, b"a"), create(0, b"gone"), create(0, b"old"), write(1, 0, 9), write(2, 5, 1), unlink(0, b"old")]
+
+# One byte each, and the number that it was: every call is refused while it is wrong, and none after it is right again.
+BREAKS = [
+    (0, 2, 1),  # another form
+    (USED_CHUNKS, 5, 2),  # more chunk rows than there is room for
+    (MARKER + 3, 0x30, 0x31),
+    (NEXT_POINTER + 1, 0x18, 0x20),  # word 3 no multiple
+    (NODE_ROWS + 40 + 10, 1, 0),  # a node row's zeros
+    (NODE_ROWS + 40 * 7, 1, 0),  # an unused row
+    (ENTRY_ROWS + 280, 1, 0),  # a parent that is a file
+    (AREA + 9, 1, 0),  # a byte above the size
+]
+BROKEN = [line for at, wrong, right in BREAKS for line in WHOLE + [Breaking(poke(at, bytes([wrong])))] + EVERY_CALL + [poke(at, bytes([right]))] + EVERY_CALL]
+
+# What is no rule may be anything: words that nobody reads, bytes that no chunk has.
+LOOSE = WHOLE + [poke(UNREAD, b"\xff" * 96), poke(AREA + 2 * 4096, b"\xff"), poke(LENGTH - 1, b"\xff"), write(1, 4096, 1), read(1, 0, 5000)] + EVERY_CALL
+
+# A memory too short for any volume, or by a byte; and a new volume that is refused, over one that goes on.
+SHORT = [line for length in (0, 63, 64, LENGTH - 1) for line in [hexed(1, length, *ROOMS, 4096)] + EVERY_CALL]
+REFUSED_NEW = WHOLE + [hexed(1, LENGTH, *rooms, span) for rooms, span in (
+    (ROOMS, 0), (ROOMS, 8192), ((0, 8, 4), 4096), ((8, 0, 4), 4096), ((8, 8, 0), 4096), ((4097, 1, 1), 4096), ((1, 4097, 1), 4096), ((1, 1, 4097), 4096), ((9, 8, 4), 4096), ((NEVER, 8, 4), 4096))] + EVERY_CALL
+
+# The refusals of each call, as the scope has them.
+REFUSALS = {
+    model.READ: {1, 2, 3},
+    model.WRITE: {1, 2, 3, 5, 6},
+    model.RESIZE: {1, 2, 3, 5, 6},
+    model.SET_LIMIT: {1, 2, 3, 13, 5},
+    model.CREATE: {1, 2, 4, 9, 13, 10, 7, 14},
+    model.LINK_CALL: {1, 2, 4, 9, 3, 10, 7, 14},
+    model.UNLINK: {1, 13, 8, 2, 9, 3, 11, 4, 12},
+    model.REMOVE: {1, 2, 12},
+    model.FIND: {1, 13, 8, 2, 9},
+    model.NEXT_ENTRY: {1, 2, 4},
+    model.SET_CHUNK_SIZE: {1, 13},
+    model.REPORT: {1, 15},
+    model.POKE: {1},
+}
+
+
+# the refusals that stand less than twice in the answers, or that no call has
+def amiss(lines, answers):
+    seen = collections.Counter()
+    for line, answer in zip(lines, answers, strict=True):
+        if answer[0].isdigit():
+            seen[int(line.split()[0], 16), int(answer.split()[0])] += 1
+    due = {(call, number) for call, numbers in REFUSALS.items() for number in numbers}
+    return [pair for pair in due if seen[pair] < 2] + [pair for pair in seen if pair[1] != 0 and pair not in due]
+
+
+def as_meant(line, answer):
+    call, _, _, length, *_ = line.split()
+    return int(call, 16) != model.POKE or length == "0" or (answer == "1 0") == isinstance(line, Breaking)
+
+
 def main():
     folder = pathlib.Path(sys.argv[1]) if len(sys.argv) > 1 else HERE.parent / "crates/name_vectors"
-    lines = NAMES + PATHS + FULL + ROOM
-    answers = subprocess.run([sys.executable, HERE / "plain_model.py", "name_vectors", "-"], input="\n".join(lines + [END]) + "\n",
-                             capture_output=True, text=True, check=True).stdout
+    runs = NAMES + PATHS + FULL + ROOM + LAST_NODE + LAST_INDEX + SIZES + REPORTS + BROKEN + LOOSE + SHORT + REFUSED_NEW
+    lines = [line for call in runs for line in (call, SUM)]
+    answers = list(model.worked_out("name_vectors", "\n".join(lines), False))
+    assert not amiss(lines, answers), amiss(lines, answers)
+    assert all(map(as_meant, lines, answers))
     before = (folder / "stdin").read_text().rstrip("\n").split("\n")
     assert before[-1] == END
     (folder / "stdin").write_text("\n".join(before[:-1] + lines + [END]) + "\n")
     with (folder / "stdout").open("a") as stdout:
-        stdout.write(answers)
+        stdout.write("\n".join(answers) + "\n")
 
 
 main()

@@ -37,6 +37,7 @@ OUTPUT_TOO_SHORT = 15
 LONGEST_NAME = 255
 LONGEST_PATH = 4096
 LEAST_OUTPUT = 512
+LONGEST_MEMORY = 1_572_864  # of a run
 
 # what unlink may be told to expect
 ANY, A_DIRECTORY, A_FILE = range(3)
@@ -157,6 +158,9 @@ class Volume:
             self.free(of_node.pop(i))
 
     # -- calls on the volume
+
+    def check(self):
+        return 0
 
     def set_chunk_size(self, S):
         refuse_if(S not in SIZES or S != self.S and self.word_3 != 0, INVALID_ARGUMENT)
@@ -379,6 +383,33 @@ def opened(memory):
     return v
 
 
+class Unsound:
+    """A memory that is no sound volume: 1 is what every call gives."""
+
+    def __init__(self, memory):
+        self.bytes = bytes(memory)
+
+    def memory(self):
+        return self.bytes
+
+    def __getattr__(self, call):
+        raise Refused(UNSOUND_MEMORY)
+
+
+def shown(memory):
+    try:
+        return opened(memory)
+    except Refused:
+        return Unsound(memory)
+
+
+def poked(v, at, piece):
+    memory = bytearray(v.memory())
+    if at + len(piece) <= len(memory):
+        memory[at : at + len(piece)] = piece
+    return shown(memory)
+
+
 def rows(form, layout, memory, at, used):
     size = struct.calcsize(layout)
     return [form(*row) for row in struct.iter_unpack(layout, memory[at : at + size * used])]
@@ -406,8 +437,9 @@ def open_allocator(memory):
 
 # ---- the oracle's lists
 
-READ, WRITE, RESIZE, SET_LIMIT, CREATE, LINK_CALL, UNLINK, REMOVE, FIND, NEXT_ENTRY = range(2, 12)
-WITH_TEXT = (CREATE, LINK_CALL, UNLINK, FIND)
+READ, WRITE, RESIZE, SET_LIMIT, CREATE, LINK_CALL, UNLINK, REMOVE, FIND, NEXT_ENTRY, SET_CHUNK_SIZE, REPORT, POKE, SUM = range(2, 16)
+WITH_TEXT = (CREATE, LINK_CALL, UNLINK, FIND, POKE)
+GIVES_BYTES = (READ, REPORT)
 
 
 # byte i that a seed makes is (seed + 7 i) mod 251, plus 1
@@ -441,31 +473,38 @@ def carry_out(v, call, node, place, length, seed, text, buffer):
         return v.remove(node)
     if call == FIND:
         return v.find(node, text)
+    if call == SET_CHUNK_SIZE:
+        return v.set_chunk_size(place)
+    if call == REPORT:
+        return v.report(buffer)
+    if call == POKE:
+        return v.check()
     index, found, name = v.next_entry(node, place)
     return [index, found, *name]
 
 
 def answer(v, call, node, place, length, seed, text):
-    buffer = filled(seed, length) if call in (READ, WRITE) else bytearray()
+    buffer = filled(seed, length) if call in (READ, WRITE, REPORT) else bytearray()
     try:
         number, told = 0, carry_out(v, call, node, place, length, seed, text, buffer)
     except Refused as refusal:
         number, told = refusal.number, [0, 0] if call == NEXT_ENTRY else 0
     numbers = [number, *told] if call == NEXT_ENTRY else [number, told]
-    if call == READ:
+    if call in GIVES_BYTES:
         numbers.append(zlib.adler32(buffer))
     return numbers
 
 
-def names_volume(numbers, lines):
+# a refused new volume leaves the memory as the runs before have left it
+def names_volume(numbers, lines, memory):
     length, N, E, C, S = numbers
     try:
         return Volume(length, N, E, C, S), "volume 0"
     except Refused as refusal:
-        return None, "volume %d" % refusal.number
+        return shown(memory[:length]), "volume %d" % refusal.number
 
 
-def files_volume(numbers, lines):
+def files_volume(numbers, lines, _):
     length, runs = numbers
     memory = bytearray(length)
     for _ in range(runs):
@@ -488,18 +527,26 @@ def printed(kind, call, numbers, v, node):
 def worked_out(kind, text, check):
     begin = {"name_vectors": names_volume, "file_vectors": files_volume}[kind]
     lines = iter(text.splitlines())
+    lent, v = bytearray(LONGEST_MEMORY), Unsound(b"")
     for line in lines:
         call, *numbers = numbers_of(line)
         if call == 0:
             return
         if call == 1:
-            v, told = begin(numbers, lines)
+            before = v.memory()
+            lent[: len(before)] = before
+            v, told = begin(numbers, lines, lent)
             yield told
+            continue
+        if call == SUM:
+            yield "sum %d" % zlib.adler32(v.memory())
             continue
         node, place, length, seed, *bytes_ = numbers
         assert len(bytes_) == (length if call in WITH_TEXT else 0)
+        if call == POKE:
+            v = poked(v, place, bytes(bytes_))
         yield printed(kind, call, answer(v, call, node, place, length, seed, bytes(bytes_)), v, node)
-        if check:
+        if check and not isinstance(v, Unsound):
             memory = v.memory()
             assert not judge.broken(memory), judge.broken(memory)
             assert opened(memory).memory() == memory

@@ -19,10 +19,11 @@ const ALLOCATE: u64 = 4;
 
 const FREE: u64 = 5;
 
-// The most words that a run has, and their bytes.
-const MOST_WORDS: usize = 24;
+// The most bytes that the part of a run has: 24 words.
+const MOST_BYTES: usize = 192;
 
-const MOST_BYTES: usize = types::WORD * MOST_WORDS;
+// What stands past the last whole word of a part: no zero, so that it shows where it is read.
+const PAST: u8 = 255;
 
 // Where words start, in bytes.
 const FREE_COUNT: usize = 16;
@@ -45,7 +46,7 @@ struct Progress {
     differs: usize,
 }
 
-// The first line of a run up to its words, and how many bytes those take.
+// The first line of a run up to its words, and how many bytes its part has.
 struct Head {
     name: u64,
     bytes: usize,
@@ -108,11 +109,11 @@ fn run(text: &[u8], totals: RunTotals) -> RunTotals
     }
 }
 
-// Zeros, to read the words of a run into.
+// Room to read the words of a run into.
 fn blank() -> [u8; MOST_BYTES]
     ensures { λ r. ⌜ 192 ≡ length r ⌝ }
 {
-    [0; MOST_BYTES]
+    [PAST; MOST_BYTES]
 }
 
 // The first line of a run up to its words. Whose answers they are makes no difference here.
@@ -122,22 +123,22 @@ fn read_head(text: &[u8], at: usize) -> Head
 {
     let name = vectors::number(text, at);
     let source = vectors::number(text, name.next);
-    let count = vectors::number(text, source.next);
+    let length = vectors::number(text, source.next);
     Head {
         name: name.value,
-        bytes: bytes_of(count.value),
-        next: count.next,
+        bytes: bytes_of(length.value),
+        next: length.next,
     }
 }
 
-// The bytes of so many words. A run with more words than any has is cut, and so differs.
-fn bytes_of(count: u64) -> usize
+// A part with more bytes than any has is cut, and so its run differs.
+fn bytes_of(length: u64) -> usize
     ensures { λ r. ⌜ r ≤ 192 ⌝ }
 {
-    if (MOST_WORDS as u64) < count {
+    if (MOST_BYTES as u64) < length {
         return MOST_BYTES;
     }
-    types::WORD * (count as usize)
+    length as usize
 }
 
 // As many words of the text as out has room for. Answers the index behind them.

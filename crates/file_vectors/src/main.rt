@@ -1,9 +1,11 @@
 // Replays runs of file calls from the standard input, each on a volume that the text lays out, and prints what each call answers.
-// oracle/README.md tells what each line means.
+// oracle/README.md tells what each line means. Of a call's numbers, place is an offset, a size or a limit; length the bytes to read or write, or 1
+// where there is to be a limit.
 use libc::STDIN_FILENO;
 use libc::STDOUT_FILENO;
 use types::Answer;
 use types::Limit;
+use vectors::Call;
 ghost use mathlib.Core.Path.{_≡_};
 ghost use mathlib.Core.Bool.{true};
 ghost use Prim.Native.Nat.{_+_, _≤_, min};
@@ -20,46 +22,17 @@ const RESIZE: u64 = 4;
 
 const SET_LIMIT: u64 = 5;
 
-// The longest memory and the longest buffer that a call is lent.
-const MEMORY: usize = 1_572_864;
-
-const BUFFER: usize = 262_144;
-
 // Where node 0 has its size: every volume here has N = E = 8 and C = 64, and rows for nodes 0, 1, 2 and so on.
 const FIRST_SIZE: usize = 728;
 
 const NODES: u64 = 8;
 
-// The line of a call. Place: the offset, the new size or the limit. Length: the bytes to read or write, or 1 where there is to be a limit.
-struct Call {
-    name: u64,
-    node: u64,
-    place: u64,
-    length: u64,
-    seed: u64,
-    next: usize,
-}
-
 fn main() {
     let mut text = vectors::blank();
     let n = io::read_full(STDIN_FILENO, &mut text);
-    let mut memory = blank_memory();
-    let mut buffer = blank_buffer();
+    let mut memory = vectors::blank_memory();
+    let mut buffer = vectors::blank_buffer();
     replay(&text[..n], &mut memory, &mut buffer);
-}
-
-// Zeros, to lay a volume out in.
-fn blank_memory() -> [u8; MEMORY]
-    ensures { λ r. ⌜ 1572864 ≡ length r ⌝ }
-{
-    [0; MEMORY]
-}
-
-// Zeros, to read into and to write from.
-fn blank_buffer() -> [u8; BUFFER]
-    ensures { λ r. ⌜ 262144 ≡ length r ⌝ }
-{
-    [0; BUFFER]
 }
 
 fn replay(text: &[u8], memory: &mut [u8], buffer: &mut [u8]) {
@@ -119,7 +92,7 @@ fn replay_call(text: &[u8], at: usize, volume: &mut [u8], buffer: &mut [u8]) -> 
     requires { ⌜ at + 1 ≤ length (now text) ⌝ }
     ensures { λ r. ⌜ (at + 1 ≤ r) × (r ≤ length (now (text .entry))) ⌝ }
 {
-    let call = read_call(text, at);
+    let call = vectors::read_call(text, at);
     let n = call.length as usize;
     if buffer.len() < n {
         io::write_all(STDOUT_FILENO, b"outside\n");
@@ -127,25 +100,6 @@ fn replay_call(text: &[u8], at: usize, volume: &mut [u8], buffer: &mut [u8]) -> 
     }
     carry_out(volume, call, &mut buffer[..n]);
     call.next
-}
-
-fn read_call(text: &[u8], at: usize) -> Call
-    requires { ⌜ at + 1 ≤ length (now text) ⌝ }
-    ensures { λ r. ⌜ (at + 1 ≤ r .next) × (r .next ≤ length (now (text .entry))) ⌝ }
-{
-    let name = vectors::number(text, at);
-    let node = vectors::number(text, name.next);
-    let place = vectors::number(text, node.next);
-    let length = vectors::number(text, place.next);
-    let seed = vectors::number(text, length.next);
-    Call {
-        name: name.value,
-        node: node.value,
-        place: place.value,
-        length: length.value,
-        seed: seed.value,
-        next: seed.next,
-    }
 }
 
 // The buffer is filled before a read too, so that its sum shows what the read leaves.

@@ -1,10 +1,13 @@
 // Replays runs of calls on names and files from the standard input, each on a new volume, and prints what each call answers.
-// oracle/README.md tells what each line means.
+// oracle/README.md tells what each line means. Of a call's numbers, node is also a parent, a directory or a start; place an offset, a size, a limit,
+// a type, a target, an open count, an index, a chunk size, or where a poke goes; length that of the buffer, or of the name, path or poke behind
+// the numbers, and 1 where there is to be a limit; seed also what unlink expects.
 use libc::STDIN_FILENO;
 use libc::STDOUT_FILENO;
 use types::Answer;
 use types::Expected;
 use types::Limit;
+use vectors::Call;
 ghost use mathlib.Core.Path.{_≡_};
 ghost use mathlib.Core.Bool.{true};
 ghost use Prim.Native.Nat.{_+_, _≤_, min};
@@ -33,10 +36,13 @@ const FIND: u64 = 10;
 
 const NEXT_ENTRY: u64 = 11;
 
-// The longest memory and the longest buffer that a call is lent.
-const MEMORY: usize = 1_572_864;
+const SET_CHUNK_SIZE: u64 = 12;
 
-const BUFFER: usize = 262_144;
+const REPORT: u64 = 13;
+
+const POKE: u64 = 14;
+
+const SUM: u64 = 15;
 
 // The numbers of a new volume: the rooms of its three tables, and the chunk size.
 const FIELDS: usize = 4;
@@ -51,37 +57,12 @@ const BYTES: u64 = 256;
 
 const INDEXES: u64 = 4_294_967_296;
 
-// The line of a call. Node: also a parent, a directory or a start. Place: an offset, a size, a limit, a type, a target, an open count or an index.
-// Length: of the buffer, or of the name or path behind the line's numbers; 1 where there is to be a limit. Seed: also what unlink expects.
-struct Call {
-    name: u64,
-    node: u64,
-    place: u64,
-    length: u64,
-    seed: u64,
-    next: usize,
-}
-
 fn main() {
     let mut text = vectors::blank();
     let n = io::read_full(STDIN_FILENO, &mut text);
-    let mut memory = blank_memory();
-    let mut buffer = blank_buffer();
+    let mut memory = vectors::blank_memory();
+    let mut buffer = vectors::blank_buffer();
     replay(&text[..n], &mut memory, &mut buffer);
-}
-
-// Zeros, to make volumes in.
-fn blank_memory() -> [u8; MEMORY]
-    ensures { λ r. ⌜ 1572864 ≡ length r ⌝ }
-{
-    [0; MEMORY]
-}
-
-// Zeros, to read into, to write from, and to keep names and paths in.
-fn blank_buffer() -> [u8; BUFFER]
-    ensures { λ r. ⌜ 262144 ≡ length r ⌝ }
-{
-    [0; BUFFER]
 }
 
 fn replay(text: &[u8], memory: &mut [u8], buffer: &mut [u8]) {
@@ -141,7 +122,7 @@ fn has_call(text: &[u8], at: usize) -> bool
         return false;
     }
     let first = vectors::number(text, at);
-    READ <= first.value && first.value <= NEXT_ENTRY
+    READ <= first.value && first.value <= SUM
 }
 
 // The call at index at. Answers where the next one starts.
@@ -149,32 +130,13 @@ fn replay_call(text: &[u8], at: usize, volume: &mut [u8], buffer: &mut [u8]) -> 
     requires { ⌜ at + 1 ≤ length (now text) ⌝ }
     ensures { λ r. ⌜ (at + 1 ≤ r) × (r ≤ length (now (text .entry))) ⌝ }
 {
-    let call = read_call(text, at);
+    let call = vectors::read_call(text, at);
     let n = call.length as usize;
     if buffer.len() < n {
         io::write_all(STDOUT_FILENO, b"outside\n");
         return call.next;
     }
     load_and_carry_out(text, volume, call, &mut buffer[..n])
-}
-
-fn read_call(text: &[u8], at: usize) -> Call
-    requires { ⌜ at + 1 ≤ length (now text) ⌝ }
-    ensures { λ r. ⌜ (at + 1 ≤ r .next) × (r .next ≤ length (now (text .entry))) ⌝ }
-{
-    let name = vectors::number(text, at);
-    let node = vectors::number(text, name.next);
-    let place = vectors::number(text, node.next);
-    let length = vectors::number(text, place.next);
-    let seed = vectors::number(text, length.next);
-    Call {
-        name: name.value,
-        node: node.value,
-        place: place.value,
-        length: length.value,
-        seed: seed.value,
-        next: seed.next,
-    }
 }
 
 fn load_and_carry_out(text: &[u8], volume: &mut [u8], call: Call, buffer: &mut [u8]) -> usize
@@ -186,7 +148,7 @@ fn load_and_carry_out(text: &[u8], volume: &mut [u8], call: Call, buffer: &mut [
     next
 }
 
-// A name or a path from the text, or bytes made of the seed: before a read too, so that its sum shows what the read leaves.
+// A name, a path or a poke from the text, or bytes made of the seed: before a read or a report too, so that its sum shows what that leaves.
 // Answers the index behind them.
 fn load(text: &[u8], call: Call, buffer: &mut [u8]) -> usize
     requires { ⌜ call .next ≤ length (now text) ⌝ }
@@ -199,24 +161,37 @@ fn load(text: &[u8], call: Call, buffer: &mut [u8]) -> usize
     call.next
 }
 
-// Whether a name or a path stands behind the numbers of a line.
+// Whether a name, a path or a poke stands behind the numbers of a line.
 fn has_text(name: u64) -> bool {
     match name {
-        CREATE | LINK | UNLINK | FIND => true,
+        CREATE | LINK | UNLINK | FIND | POKE => true,
         _ => false,
     }
 }
 
 fn carry_out(volume: &mut [u8], call: Call, buffer: &mut [u8]) {
-    if call.name == NEXT_ENTRY {
-        list(volume, call);
-        return;
-    }
-    print_answer(ask(volume, call, buffer));
-    if call.name == READ {
+    tell(volume, call, buffer);
+    if gives_bytes(call.name) {
         print_number(vectors::checksum(buffer));
     }
     io::write_all(STDOUT_FILENO, b"\n");
+}
+
+fn tell(volume: &mut [u8], call: Call, buffer: &mut [u8]) {
+    let name = call.name;
+    match name {
+        NEXT_ENTRY => list(volume, call),
+        SUM => print_sum(volume),
+        _ => print_answer(ask(volume, call, buffer)),
+    }
+}
+
+// Whether a call fills the buffer that it is lent.
+fn gives_bytes(name: u64) -> bool {
+    match name {
+        READ | REPORT => true,
+        _ => false,
+    }
 }
 
 fn ask(volume: &mut [u8], call: Call, buffer: &mut [u8]) -> Answer {
@@ -226,8 +201,28 @@ fn ask(volume: &mut [u8], call: Call, buffer: &mut [u8]) -> Answer {
         WRITE => lentilraft::write(volume, call.node, call.place, buffer),
         RESIZE => lentilraft::resize_file(volume, call.node, call.place),
         SET_LIMIT => lentilraft::set_limit(volume, call.node, limit_of(call)),
+        SET_CHUNK_SIZE => lentilraft::set_chunk_size(volume, call.place),
+        REPORT => lentilraft::report(volume, buffer),
+        POKE => poke(volume, call.place as usize, buffer),
         _ => ask_names(volume, call, buffer),
     }
+}
+
+// Puts bytes into the volume by no call, and asks check about it.
+fn poke(volume: &mut [u8], at: usize, bytes: &[u8]) -> Answer {
+    put_bytes(volume, at, bytes);
+    lentilraft::check(volume)
+}
+
+// Bytes that do not fit are dropped: what a program prints shows it.
+fn put_bytes(volume: &mut [u8], at: usize, bytes: &[u8]) {
+    if volume.len() < bytes.len() {
+        return;
+    }
+    if volume.len() - bytes.len() < at {
+        return;
+    }
+    words::copy(volume, at, bytes);
 }
 
 // The text is a name or a path.
@@ -268,7 +263,12 @@ fn list(volume: &[u8], call: Call) {
     print_number(index as u64);
     print_number(node);
     print_bytes(name);
-    io::write_all(STDOUT_FILENO, b"\n");
+}
+
+// All bytes of the volume, told by their sum.
+fn print_sum(volume: &[u8]) {
+    io::write_all(STDOUT_FILENO, b"sum");
+    print_number(vectors::checksum(volume));
 }
 
 fn print_bytes(bytes: &[u8]) {

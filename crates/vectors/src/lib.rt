@@ -1,10 +1,17 @@
-// Test vectors: numbers read from text, bytes laid out from them or made of a seed, and a checksum to tell many bytes by.
+// Test vectors: numbers read from text, bytes laid out from them or made of a seed, lines of calls, and a checksum to tell many bytes by.
 // Text holds numbers in lower-case hexadecimal, with any other bytes between them.
+mod call;
 mod lay;
 mod scan;
 mod seed;
 mod sum;
 
+pub use call::BUFFER;
+pub use call::Call;
+pub use call::MEMORY;
+pub use call::blank_buffer;
+pub use call::blank_memory;
+pub use call::read_call;
 pub use lay::lay_runs;
 pub use scan::Scan;
 pub use scan::bytes;

@@ -11,6 +11,7 @@ use oracle::{
 
 const SIZES: [u64; 3] = [4096, 16384, 65536];
 const MAX_ROOM: u64 = 8;
+const WORD_BYTES: usize = 8;
 const MAX_STEPS: u64 = 40;
 
 /// Sizes that no allocator may have. The last is cut to an accepted one where usize has 32 bits.
@@ -147,7 +148,7 @@ fn run(generator: &mut Generator, words: &[u64], most: u64, tally: &mut Tally) -
     assert!(!differs || answer != 0);
     assert!(differs || rust.words() == after);
 
-    let mut lines = format!("1 {} {:x} ", differs as u8, words.len());
+    let mut lines = format!("1 {} {:x} ", differs as u8, WORD_BYTES * words.len());
     lines += &(spelled(words.to_vec()) + "\n");
     let mut steps = 0;
     let mut step = |call: Vec<u64>, after: Vec<u64>| {
