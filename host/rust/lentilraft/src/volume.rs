@@ -101,7 +101,8 @@ impl<B: AsRef<[u8]>> Volume<B> {
     pub fn report(&self) -> Result<String> {
         let mut text = [0; REPORT];
         let count = ffi::report(self.bytes(), &mut text)?;
-        Ok(String::from_utf8_lossy(&text[..count as usize]).into_owned())
+        let text = text[..count as usize].to_vec();
+        Ok(String::from_utf8(text).expect("a report is plain ASCII"))
     }
 
     /// What the volume knows of a node.
