@@ -366,12 +366,12 @@ fn entries_end_behind_the_last_index() {
 #[test]
 fn entries_give_a_refusal_once() {
     let (volume, file) = with_file();
-    let refused = |directory| volume.entries(directory).collect::<Vec<_>>();
+    let refused = |directory| volume.entries(directory).take(2).collect::<Vec<_>>();
     assert_eq!(refused(MISSING), [Err(Error::NoSuchEntry)]);
     assert_eq!(refused(file), [Err(Error::NotDirectory)]);
     let broken = Volume::over(&[0; 100][..]);
     assert_eq!(
-        broken.entries(ROOT).collect::<Vec<_>>(),
+        broken.entries(ROOT).take(2).collect::<Vec<_>>(),
         [Err(Error::UnsoundMemory)]
     );
 }

@@ -8,8 +8,10 @@ use crate::helpers::{
 
 const FILE: Node = Node(1);
 
+type Call = fn(&mut Owned) -> Result<()>;
+
 /// Every call on a volume but new, as one that a sound volume would carry out.
-const CALLS: [(&str, fn(&mut Owned) -> Result<()>); 18] = [
+const CALLS: [(&str, Call); 18] = [
     ("check", |v| v.check()),
     ("read", |v| v.read(FILE, 0, &mut [0; 4]).map(drop)),
     ("find", |v| v.find(ROOT, b"f").map(drop)),
