@@ -4,14 +4,15 @@ use crate::map;
 use crate::scale::{self, Row};
 use crate::text;
 
-const WIDTH: f64 = 1000.0;
+const WIDTH: f64 = 1200.0;
 const EDGE: f64 = 24.0;
 
-/// Where the title, the summary, the legend and the rows stand, and what each row takes.
-const TITLE: f64 = 42.0;
-const SUMMARY: f64 = 66.0;
-const LEGEND: f64 = 100.0;
+/// Where the title, the line under it, the legend and the rows stand, and what each row takes.
+const TITLE_LINE: f64 = 42.0;
+const SUBTITLE_LINE: f64 = 66.0;
+const LEGEND_LINE: f64 = 100.0;
 const TOP: f64 = 126.0;
+const TOP_BELOW_AXIS: f64 = 146.0;
 const ROW: f64 = 32.0;
 const BAR: f64 = 16.0;
 
@@ -19,14 +20,19 @@ const BAR: f64 = 16.0;
 const STICK: f64 = 4.0;
 
 /// A letter is about so wide, in names and in small text, and so many of a name are shown.
-const LETTER: f64 = 8.2;
+const LETTER: f64 = 7.7;
 const SMALL_LETTER: f64 = 7.2;
 const MOST_LETTERS: usize = 36;
+const MOST_TITLE_LETTERS: usize = 90;
+
+const DOTS: &str = "…";
 
 /// A stretch that is written can be seen however short it is.
 const LEAST_STRETCH: f64 = 1.0;
 
 const MOST_TICKS: u64 = 8;
+
+const SUBTITLE: &str = "Which bytes of each file were written, by their offset";
 
 /// From so many rows on the axis stands at the top as well.
 const MANY_ROWS: usize = 16;
@@ -52,33 +58,22 @@ pub fn draw(title: &str, rows: &[Row]) -> String {
         text: String::new(),
     };
     picture.open(frame.height);
-    picture.label(EDGE, TITLE, "title", title);
-    picture.label(EDGE, SUMMARY, "small", &summary(rows));
-    picture.legend(LEGEND, rows, frame.end);
+    let title = map::shortened(title, MOST_TITLE_LETTERS, DOTS);
+    picture.label(EDGE, TITLE_LINE, "title", &title);
+    picture.label(EDGE, SUBTITLE_LINE, "small", SUBTITLE);
+    picture.legend(LEGEND_LINE, rows, frame.end);
     frame.grid(&mut picture);
     for (index, row) in rows.iter().enumerate() {
-        frame.row(&mut picture, row, TOP + ROW * index as f64);
+        frame.row(&mut picture, row, frame.top + ROW * index as f64);
     }
     picture.text + "</svg>\n"
-}
-
-/// How much of all files was written.
-fn summary(rows: &[Row]) -> String {
-    let written: u64 = rows.iter().map(Row::written_bytes).sum();
-    let size = rows
-        .iter()
-        .fold(0, |sum: u64, row| sum.saturating_add(row.size));
-    let (written, size) = (text::grouped(written), text::grouped(size));
-    match rows.len() {
-        1 => format!("{} of {} bytes written", written, size),
-        count => format!("{} files, {} of {} bytes written", count, written, size),
-    }
 }
 
 /// Where things stand.
 struct Frame {
     left: f64,
     right: f64,
+    top: f64,
     bottom: f64,
     height: f64,
     end: u64,
@@ -90,14 +85,17 @@ impl Frame {
         let longest = |length: fn(&Row) -> usize| rows.iter().map(length).max().unwrap_or(0);
         let names = longest(|row| row.name.chars().count()).clamp(4, MOST_LETTERS);
         let numbers = longest(|row| numbers(row).len());
-        let bottom = TOP + ROW * rows.len() as f64;
+        let twice = rows.len() >= MANY_ROWS;
+        let top = if twice { TOP_BELOW_AXIS } else { TOP };
+        let bottom = top + ROW * rows.len() as f64;
         Frame {
             left: EDGE + 10.0 + LETTER * names as f64,
             right: WIDTH - EDGE - 20.0 - SMALL_LETTER * numbers as f64,
             bottom,
             height: bottom + 62.0,
             end: scale::axis_end(rows),
-            twice: rows.len() >= MANY_ROWS,
+            twice,
+            top,
         }
     }
 
@@ -109,7 +107,7 @@ impl Frame {
 
     /// The axis with its labels, and a line up through all rows at each.
     fn grid(&self, picture: &mut Picture) {
-        let top = TOP - 4.0;
+        let top = self.top - 4.0;
         for tick in scale::ticks(self.end, MOST_TICKS) {
             let (x, label) = (self.x(tick), text::short_size(tick));
             picture.line("grid", (x, top), (x, self.bottom));
@@ -132,7 +130,7 @@ impl Frame {
     fn row(&self, picture: &mut Picture, row: &Row, top: f64) {
         let y = top + (ROW - BAR) / 2.0;
         let base = y + BAR - 3.5;
-        let name = map::shortened(&row.name, MOST_LETTERS, "…");
+        let name = map::shortened(&row.name, MOST_LETTERS, DOTS);
         picture.label(self.left - 10.0, base, "end", &name);
         picture.rect("gap", self.x(0), y, self.x(row.size) - self.x(0));
         for written in &row.written {
@@ -160,11 +158,13 @@ impl Frame {
     }
 }
 
+/// How many bytes are written of how many, and the limit.
 fn numbers(row: &Row) -> String {
-    let size = text::grouped(row.size);
+    let written = text::grouped(row.written_bytes());
+    let numbers = format!("{} of {}", written, text::grouped(row.size));
     match row.limit {
-        Some(limit) => format!("{} (limit {})", size, text::grouped(limit)),
-        None => size,
+        Some(limit) => format!("{}, limit {}", numbers, text::grouped(limit)),
+        None => numbers,
     }
 }
 
