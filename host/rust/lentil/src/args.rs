@@ -184,32 +184,26 @@ impl Command {
     }
 
     pub fn help(&self) -> String {
-        let mut help = format!(
-            "lentil {}: {}\n\nusage: lentil {}",
-            self.name, self.about, self.name
-        );
-        for switch in self.options {
-            help += &format!(" [{}]", switch.form());
-        }
-        help += &format!(" {}\n\n{}\n", self.places, self.details);
+        let options = if self.options.is_empty() {
+            ""
+        } else {
+            " [OPTION ..]"
+        };
+        let usage = format!("lentil {}{} {}", self.name, options, self.places);
+        let mut help = format!("lentil {}: {}\n\nusage: {}\n", self.name, self.about, usage);
+        help += &format!("\n{}\n", self.details);
         if !self.options.is_empty() {
-            help.push('\n');
-        }
-        let width = self
-            .options
-            .iter()
-            .map(|switch| switch.form().len())
-            .max()
-            .unwrap_or(0);
-        for switch in self.options {
-            help += &format!(
-                "  {:width$}  {}\n",
-                switch.form(),
-                switch.about,
-                width = width
-            );
+            help += &format!("\noptions:\n{}", self.option_lines());
         }
         help + &format!("\nexample:\n  {}\n", self.example)
+    }
+
+    fn option_lines(&self) -> String {
+        let forms: Vec<String> = self.options.iter().map(Switch::form).collect();
+        let width = forms.iter().map(String::len).max().unwrap_or(0);
+        let lines = forms.iter().zip(self.options);
+        let lines = lines.map(|(form, switch)| format!("  {:width$}  {}\n", form, switch.about));
+        lines.collect()
     }
 }
 

@@ -43,12 +43,11 @@ fn greatest_write(volume: &Volume) -> Result<u64> {
 /// refuses them, so that one without an end does no harm.
 fn read_all(source: &mut Source, most: u64) -> Outcome<Vec<u8>> {
     let mut progress = Progress::new();
+    let mut piece = vec![0; PIECE];
     let mut bytes = Vec::new();
     while bytes.len() as u64 <= most {
-        let start = bytes.len();
-        bytes.resize(start + PIECE, 0);
-        let count = source.fill(&mut bytes[start..])?;
-        bytes.truncate(start + count);
+        let count = source.fill(&mut piece)?;
+        bytes.extend_from_slice(&piece[..count]);
         if count < PIECE {
             break;
         }
