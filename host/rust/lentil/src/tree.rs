@@ -1,0 +1,159 @@
+//! What stands below a directory of a volume, and paths to what does not stand there yet.
+
+use lentilraft::{Error, Info, Kind, Node, Result, ROOT};
+
+use crate::progress::Progress;
+use crate::store::Volume;
+
+/// An entry somewhere below a directory.
+pub struct Found {
+    /// Its path from that directory on.
+    pub path: Vec<u8>,
+    pub parent: Node,
+    pub name: Vec<u8>,
+    pub node: Node,
+    pub info: Info,
+    /// How many directories lie between.
+    pub depth: usize,
+    /// Whether it is the last entry of its own directory.
+    pub last: bool,
+}
+
+/// All entries below a directory, each directory before what is in it.
+///
+/// A directory has one name at most and the root none, so that no walk comes to one twice.
+pub fn below(volume: &Volume, start: Node) -> Result<Vec<Found>> {
+    let mut progress = Progress::new();
+    let mut waiting = entries(volume, start, b"", 0)?;
+    waiting.reverse();
+    let mut found = Vec::new();
+    while let Some(next) = waiting.pop() {
+        if next.info.kind == Kind::Directory {
+            let inside = entries(volume, next.node, &next.path, next.depth + 1)?;
+            waiting.extend(inside.into_iter().rev());
+        }
+        found.push(next);
+        progress.at(|| format!("looked at {} entries", found.len()));
+    }
+    Ok(found)
+}
+
+/// The entries of one directory, in the order in which they were made.
+pub fn entries(volume: &Volume, directory: Node, path: &[u8], depth: usize) -> Result<Vec<Found>> {
+    let mut found = Vec::new();
+    for entry in volume.entries(directory) {
+        let entry = entry?;
+        found.push(Found {
+            path: joined(path, entry.name),
+            parent: directory,
+            name: entry.name.to_vec(),
+            node: entry.node,
+            info: volume.node(entry.node)?,
+            depth,
+            last: false,
+        });
+    }
+    if let Some(last) = found.last_mut() {
+        last.last = true;
+    }
+    Ok(found)
+}
+
+/// A path with one more part.
+pub fn joined(path: &[u8], name: &[u8]) -> Vec<u8> {
+    match path {
+        b"" => name.to_vec(),
+        _ => [path, b"/", name].concat(),
+    }
+}
+
+/// A path's last part, and what stands before it. A slash at the end means nothing.
+pub fn split(path: &[u8]) -> (&[u8], &[u8]) {
+    let end = path
+        .iter()
+        .rposition(|byte| *byte != b'/')
+        .map_or(0, |last| last + 1);
+    let start = path[..end]
+        .iter()
+        .rposition(|byte| *byte == b'/')
+        .map_or(0, |slash| slash + 1);
+    (&path[..start], &path[start..end])
+}
+
+/// Makes a node of a kind at a path.
+///
+/// The whole path is looked up first: what the store refuses in it is refused here.
+pub fn make(volume: &mut Volume, path: &[u8], kind: Kind) -> Result<Node> {
+    absent(volume.find(ROOT, path))?;
+    let (front, name) = split(path);
+    let parent = volume.find(ROOT, front)?;
+    volume.create(parent, name, kind)
+}
+
+/// Names a node once more.
+pub fn name(volume: &mut Volume, path: &[u8], node: Node) -> Result<()> {
+    absent(volume.find(ROOT, path))?;
+    let (front, name) = split(path);
+    let parent = volume.find(ROOT, front)?;
+    volume.link(parent, name, node)
+}
+
+/// Lets pass whether there is something at a path; that is for the call that makes it to judge.
+fn absent(found: Result<Node>) -> Result<()> {
+    match found {
+        Ok(_) | Err(Error::NoSuchEntry) => Ok(()),
+        Err(error) => Err(error),
+    }
+}
+
+/// The directory at a path, made with those before it if need be.
+pub fn make_directories(volume: &mut Volume, path: &[u8]) -> Result<Node> {
+    let ends = (1..path.len()).filter(|end| path[*end] == b'/');
+    for end in ends.collect::<Vec<_>>() {
+        make_directory(volume, &path[..end])?;
+    }
+    make_directory(volume, path)
+}
+
+fn make_directory(volume: &mut Volume, path: &[u8]) -> Result<Node> {
+    match volume.find(ROOT, path) {
+        Ok(node) if volume.node(node)?.kind == Kind::Directory => Ok(node),
+        _ => make(volume, path, Kind::Directory),
+    }
+}
+
+/// Takes an entry out of its directory, and its node away if that was its last name.
+pub fn take_out(volume: &mut Volume, start: Node, path: &[u8]) -> Result<()> {
+    let node = volume.unlink(start, path, lentilraft::Expected::Any, 0)?;
+    match volume.node(node)?.links {
+        0 => volume.remove(node),
+        _ => Ok(()),
+    }
+}
+
+#[cfg(test)]
+mod tests {
+    use super::*;
+
+    #[test]
+    fn paths_are_split_before_their_last_part() {
+        let cases: [(&str, &str, &str); 8] = [
+            ("a", "", "a"),
+            ("a/b", "a/", "b"),
+            ("a/b/", "a/", "b"),
+            ("a//b//", "a//", "b"),
+            ("/a", "/", "a"),
+            ("a/..", "a/", ".."),
+            ("/", "", ""),
+            ("", "", ""),
+        ];
+        for (path, front, name) in cases {
+            assert_eq!(
+                split(path.as_bytes()),
+                (front.as_bytes(), name.as_bytes()),
+                "{}",
+                path
+            );
+        }
+    }
+}

@@ -1,0 +1,101 @@
+//! Help, and command lines that make no sense.
+
+mod common;
+
+use common::Place;
+
+const COMMANDS: [&str; 15] = [
+    "new", "check", "report", "ls", "tree", "mkdir", "put", "get", "cut", "limit", "ln", "rm",
+    "import", "export", "map",
+];
+
+#[test]
+fn the_program_says_what_it_does() {
+    let place = Place::new("help");
+    let help = place.run(["--help"]).text();
+    for command in COMMANDS {
+        assert!(help.contains(&format!("\n  {} ", command)), "{}", command);
+    }
+    assert!(help.contains("\nexample:\n  lentil "));
+    assert_eq!(place.run(["-h"]).text(), help);
+    assert!(place.run(["--version"]).text().starts_with("lentil 0."));
+}
+
+#[test]
+fn each_command_says_what_it_does() {
+    let place = Place::new("help_command");
+    for command in COMMANDS {
+        let help = place.run([command, "--help"]).text();
+        assert!(
+            help.starts_with(&format!("lentil {}: ", command)),
+            "{}",
+            help
+        );
+        assert!(
+            help.contains(&format!("\nusage: lentil {} ", command)),
+            "{}",
+            help
+        );
+        assert!(
+            help.contains(&format!("\nexample:\n  lentil {} ", command)),
+            "{}",
+            help
+        );
+        assert!(help.lines().all(|line| line.len() <= 100), "{}", help);
+    }
+}
+
+#[test]
+fn senseless_command_lines_are_refused() {
+    let place = Place::with_volume("usage");
+    let state = place.state("v");
+    let cases: [(&[&str], &str); 22] = [
+        (&[], "which command?"),
+        (&["fetch"], "there is no command 'fetch'"),
+        (&["new"], "new takes VOLUME."),
+        (&["ls"], "ls takes VOLUME [PATH]."),
+        (&["ls", "v", "a", "b"], "ls takes VOLUME [PATH]."),
+        (&["ls", "--long", "v"], "ls has no option --long."),
+        (&["ls", "-l=3", "v"], "ls -l takes no value."),
+        (&["put", "v", "a", "--at"], "put --at takes OFFSET."),
+        (
+            &["put", "v", "a", "--at", "1.5k"],
+            "--at is a number of bytes",
+        ),
+        (
+            &["put", "v", "a", "--at", "0", "--sparse"],
+            "--at or --sparse",
+        ),
+        (&["get", "v", "a", "--sparse"], "get --sparse needs a FILE"),
+        (
+            &["get", "v", "a", "-", "--sparse"],
+            "get --sparse needs a FILE",
+        ),
+        (&["cut", "v", "a", "-1"], "cut has no option -1."),
+        (&["cut", "v", "a", "all"], "SIZE is a number of bytes"),
+        (&["limit", "v", "a", "\x1b"], "'$'\\x1b''"),
+        (&["new", "w", "--nodes", "0"], "--nodes is 1 to 4096, not 0"),
+        (&["new", "w", "--entries", "4097"], "--entries is 1 to 4096"),
+        (&["new", "w", "--chunks", "4097"], "--chunks is 1 to 4096"),
+        (
+            &["new", "w", "--chunk-size", "8k"],
+            "--chunk-size is 4k, 16k or 64k",
+        ),
+        (&["new", "w", "--size", "64k"], "--size is "),
+        (&["new", "w", "--size", "1G"], "--size is "),
+        (&["new", "w", "--size", "16777216G"], "--size is "),
+    ];
+    for (words, reason) in cases {
+        place.run(words).misused(reason);
+    }
+    assert!(state == place.state("v"));
+    assert_eq!(place.names(), ["v"]);
+}
+
+#[test]
+fn two_dashes_end_the_options() {
+    let place = Place::with_volume("dashes");
+    place.run(["mkdir", "v", "--", "-p"]).done();
+    assert_eq!(place.run(["ls", "v"]).text(), "-p\n");
+    place.run(["ls", "--", "v", "-p"]).done();
+}
