@@ -1,6 +1,7 @@
 pub mod EntrySearch
 pub mod NamedEntry
 pub mod Reaching
+pub mod PathSteps
 pub mod FoundNode
 pub mod NextEntry
 pub mod RemoveSteps
