@@ -11,7 +11,6 @@ pub mod ReachedPlace
 pub mod UnlinkSteps
 pub mod ParentRows
 pub mod NewSpots
-pub mod ChangedPlaces
 pub mod EntrySteps
 pub mod NameMeets
 pub mod RowRoom
