@@ -1,60 +1,51 @@
--- What find gives, by how the path was cut and where its parts lead.
+-- What find gives, by where the path leads.
 -- Assumes nothing.
 use mathlib.Core.Path.{_≡_, refl, sym, ap, _∙_}
 use mathlib.Core.List.{List}
 use Prim.Native.Nat.{ℕ, zero, suc}
 use native.Mathlib.Omega.{arith}
 use lib.ListN.{length}
-use denote.Enum.Declared.{tagOf}
+use lib.Dec.{ltb}
+use borrow.Author.Tests.{le-ltb}
+use Rattle.words.specs.Rules.{pick}
+use Rattle.types.specs.declared.Answer.{Answer}
 use Rattle.types.specs.declared.Answer.the-variants.{Done, Refused}
 use Rattle.types.specs.declared.Error.{Error}
-use Rattle.types.specs.declared.Error.the-variants.{PathNotPermitted, InvalidArgument}
-use Rattle.paths.specs.Path.{parts, notPermitted, tooLong, cutPath}
-use Rattle.paths.specs.declared.Cut.{Cut}
-use Rattle.paths.specs.declared.Cut.the-variants.{Parts, NotPermitted, TooLong}
-use Rattle.paths.proofs.Cut.{the-type}
+use Rattle.types.specs.declared.Error.the-variants.{PathNotPermitted}
+use Rattle.paths.specs.Path.{Cutting, parts, notPermitted, tooLong, cutPath}
 use Rattle.volume.specs.Volume.{Names}
 use Rattle.volume.specs.Sound.{Named}
-use Rattle.names.specs.Walks.{onCutting, nodeReached, findNode}
+use Rattle.names.specs.Walks.{onCutting, walkFrom, nodeReached, findNode}
 use Rattle.directories.specs.declared.finding.Reached.{Reached}
 use Rattle.directories.specs.declared.finding.Reached.the-variants.{At, Stopped}
-use Rattle.directories.specs.Reaches.{reachFrom}
+use Rattle.directories.specs.Reaches.{reachFrom, reachPath}
 use Rattle.directories.proofs.Reaching.{walkShown, reach-shows}
 
--- a refusal of the path, by its case
-pub is-barred : (c : Cut) → tagOf the-type c ≡ 1 → c ≡ NotPermitted
-is-barred (Parts n d) t = absurd (omega arith)
-is-barred NotPermitted t = refl
-is-barred TooLong t = absurd (omega arith)
+abbrev answerOf : Reached → Answer
+answerOf (At n p) = Done n
+answerOf (Stopped e) = Refused e
 
-pub is-long : (c : Cut) → tagOf the-type c ≡ 2 → c ≡ TooLong
-is-long (Parts n d) t = absurd (omega arith)
-is-long NotPermitted t = absurd (omega arith)
-is-long TooLong t = refl
+module _ (start : ℕ) (path : List ℕ) (a : Names) (named : Named a) where
+  parts-answer : (ps : List (List ℕ)) → answerOf (reachFrom start a ps) ≡ nodeReached (walkFrom start a ps)
+  parts-answer ps = go (length ps) (reachFrom start a ps) ∙ ap nodeReached (sym (reach-shows start a (named .nodeOrder) (named .entryOrder) ps))
+    where
+      go : (k : ℕ) (r : Reached) → answerOf r ≡ nodeReached (walkShown (a .entries) k r)
+      go zero (At n p) = unfold walkShown nodeReached in refl
+      go (suc k) (At n p) = unfold walkShown nodeReached in refl
+      go k (Stopped e) = unfold walkShown nodeReached in refl
 
-module _ (start : ℕ) (path : List ℕ) (a : Names) where
-  pub find-barred : cutPath path ≡ notPermitted → Refused PathNotPermitted ≡ findNode start path a
-  unfolding findNode onCutting
-  find-barred e = rw e refl
+  path-answers : answerOf (reachPath start path 0 a) ≡ findNode start path a
+  unfolding findNode reachPath onCutting pick
+  path-answers = go (cutPath path)
+    where
+      go : (c : Cutting) → answerOf (onCutting Stopped (λ ps. pick (ltb (length ps) 0) (Stopped PathNotPermitted) (reachFrom start a ps)) c) ≡ onCutting Refused (λ ps. nodeReached (walkFrom start a ps)) c
+      go (parts ps) = rw (le-ltb (length ps) 0 (omega arith)) (parts-answer ps)
+      go notPermitted = refl
+      go tooLong = refl
 
-  pub find-long : cutPath path ≡ tooLong → Refused InvalidArgument ≡ findNode start path a
-  unfolding findNode onCutting
-  find-long e = rw e refl
-
-  module _ (named : Named a) {ps : List (List ℕ)} (cut : cutPath path ≡ parts ps) {r : Reached} (h : r ≡ reachFrom start a ps) where
-    parts-lead : nodeReached (walkShown (a .entries) (length ps) r) ≡ findNode start path a
-    unfolding findNode onCutting
-    parts-lead = rw (cut, h) (ap nodeReached (sym (reach-shows start a (named .nodeOrder) (named .entryOrder) ps)))
-
+  module _ {r : Reached} (h : r ≡ reachPath start path 0 a) where
     pub find-node-at : {n p : ℕ} → r ≡ At n p → Done n ≡ findNode start path a
-    find-node-at {n} {p} k = go (length ps) ∙ rw k at parts-lead
-      where
-        go : (j : ℕ) → Done n ≡ nodeReached (walkShown (a .entries) j (At n p))
-        go zero = unfold walkShown nodeReached in refl
-        go (suc j) = unfold walkShown nodeReached in refl
+    find-node-at k = ap answerOf (sym k ∙ h) ∙ path-answers
 
     pub find-stopped : {e : Error} → r ≡ Stopped e → Refused e ≡ findNode start path a
-    find-stopped {e} k = go (length ps) ∙ rw k at parts-lead
-      where
-        go : (j : ℕ) → Refused e ≡ nodeReached (walkShown (a .entries) j (Stopped e))
-        go j = unfold walkShown nodeReached in refl
+    find-stopped k = ap answerOf (sym k ∙ h) ∙ path-answers

@@ -1,6 +1,7 @@
 pub mod EntrySearch
 pub mod NamedEntry
 pub mod Reaching
+pub mod PathSteps
 pub mod FoundNode
 pub mod NextEntry
 pub mod RemoveSteps
@@ -10,7 +11,6 @@ pub mod ReachedPlace
 pub mod UnlinkSteps
 pub mod ParentRows
 pub mod NewSpots
-pub mod ChangedPlaces
 pub mod EntrySteps
 pub mod NameMeets
 pub mod RowRoom

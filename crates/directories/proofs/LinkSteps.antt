@@ -27,6 +27,7 @@ use Rattle.tables.proofs.NodeRows.{node-each}
 use Rattle.files.specs.declared.files.RowAt.{RowAt}
 use Rattle.files.specs.declared.files.FileRow.{FileRow}
 use Rattle.files.specs.declared.files.FileRow.the-variants as file
+use Rattle.tables.proofs.ChangedPlaces.{other-place, found-changed}
 use Rattle.files.specs.Files.{onFile}
 use Rattle.files.proofs.FileRows.{IsFile, file-found, file-goes-on, file-refused}
 use Rattle.names.specs.Entering.{withEntry, linkedTo, whereNew, link}
@@ -39,7 +40,6 @@ use Rattle.directories.specs.declared.entering.NewSpot.the-variants as s
 use Rattle.directories.specs.Spots.{parentFound, IsParent, newSpot, spotFound}
 use Rattle.directories.proofs.ParentRows.{parent-found, parent-goes-on, parent-refused}
 use Rattle.directories.proofs.NewSpots.{IsSpot, spot-found, spot-goes-on, spot-refused, spot-enters}
-use Rattle.directories.proofs.ChangedPlaces.{other-place, found-changed}
 use Rattle.directories.proofs.EntrySteps.{entryMore, adding-asked, entered-shown, entered-ready}
 use Rattle.directories.proofs.NameMeets.{NameMeets, name-meets, name-refused}
 use Rattle.tables.specs.OneRow.{linked}

@@ -3,7 +3,7 @@
 -- Assumes nothing.
 use mathlib.Core.Path.{_≡_, refl, sym, ap, _∙_, subst}
 use mathlib.Core.Bool.{Bool, true, false}
-use mathlib.Core.List.{List, [], _∷_}
+use mathlib.Core.List.{List, []}
 use mathlib.Core.Logic.{inl, inr}
 use mathlib.Core.Option.{Option, none, some}
 use Prim.Native.Nat.{ℕ, _+_, _-_, _≤_, _<_}
@@ -17,8 +17,8 @@ use Rattle.words.specs.Rules.{pick, Says, holds, fails}
 use Rattle.words.specs.Tables.{lead, Each, Asc}
 use Rattle.words.proofs.Order.{each-at}
 use Rattle.words.proofs.Places.{places-each, asc-at}
-use Rattle.words.proofs.Rules.{says-true, true-says, says-eqb, says-ltb, says-both, pick-true, pick-false}
-use Rattle.words.proofs.Search.{asc-falls, lead-le, lead-above, lead-below}
+use Rattle.words.proofs.Rules.{says-true, true-says, says-eqb, pick-true, pick-false}
+use Rattle.words.proofs.Search.{asc-falls, lead-le, lead-same, lead-above, lead-below}
 use Rattle.types.specs.declared.Error.{Error}
 use Rattle.types.specs.declared.Error.the-variants.{NoRowRoom, NameExists, NoIndexLeft}
 use Rattle.paths.specs.Path.{nameAllowed}
@@ -33,7 +33,7 @@ use Rattle.tables.specs.Tables.{entryAt}
 use Rattle.tables.proofs.TableSearch.{entry-falls}
 use Rattle.names.specs.Entries.{entryNamed, greatest, onEntry}
 use Rattle.names.specs.Entering.{mostIndex, whereNew}
-use Rattle.names.proofs.Entered.{greatest-above}
+use Rattle.names.proofs.Entered.{greatest-above, greatest-within}
 use Rattle.directories.specs.declared.searching.Searched.{Searched}
 use Rattle.directories.specs.declared.searching.Searched.the-variants as searched
 use Rattle.directories.specs.declared.entering.Spot.{Spot}
@@ -44,24 +44,6 @@ use Rattle.directories.specs.Spots.{pastIndexes, newSpot, spotFound}
 use Rattle.directories.proofs.searching.Searched.{the-type}
 use Rattle.directories.proofs.NamedEntry.{searched-found, searched-absent}
 use Rattle.names.specs.Enterable.{Enterable}
-
--- ---- tests that agree on every row: as many rows lead
-
-lead-same : {R : Type 0} (f g : R → Bool) (rs : List R) → Each (λ r. f r ≡ g r) rs → lead f rs ≡ lead g rs
-unfolding lead Each
-lead-same f g [] h = refl
-lead-same f g (r ∷ rs) h = rw (h .0, lead-same f g rs (h .1))
-
--- ---- the greatest index is at most what every index of the directory is at most
-
-greatest-within : (p m : ℕ) (es : List Entry) → Each (λ e. e .parent ≡ p → e .index ≤ m) es → greatest p es ≤ m
-unfolding greatest pick Each
-greatest-within p m [] h = omega arith
-greatest-within p m (x ∷ es) h = go (says-both (says-eqb (x .parent) p) (says-ltb (greatest p es) (x .index))) (greatest-within p m es (h .1))
-  where
-    go : {b : Bool} → Says ((x .parent ≡ p) × (greatest p es < x .index)) b → greatest p es ≤ m → pick b (x .index) (greatest p es) ≤ m
-    go (holds k) i = h .0 (k .0)
-    go (fails k) i = i
 
 -- ---- pairs in order
 

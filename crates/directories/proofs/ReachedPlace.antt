@@ -1,28 +1,32 @@
--- The place that the parts of a path lead to: where there is a part, an entry stands there.
+-- The place that a path leads to: where there is a part, an entry stands there.
 -- Assumes nothing.
-use mathlib.Core.Path.{_≡_, refl}
-use mathlib.Core.Bool.{Bool, true, false}
+use mathlib.Core.Path.{_≡_, refl, sym, _∙_}
+use mathlib.Core.Bool.{Bool, true, false, false≢true}
 use mathlib.Core.List.{List, [], _∷_}
 use Prim.Native.Nat.{ℕ, _<_}
 use native.Mathlib.Omega.{arith}
 use lib.Dec.{ltb}
 use lib.ListN.{length}
+use borrow.Author.Tests.{lt-ltb}
 use Rattle.words.specs.Rules.{pick}
 use Rattle.words.specs.Tables.{Asc}
 use Rattle.types.specs.Sizes.{mostName}
-use Rattle.types.specs.declared.Error.the-variants.{BadName}
+use Rattle.types.specs.declared.Error.{Error}
+use Rattle.types.specs.declared.Error.the-variants.{PathNotPermitted, BadName}
+use Rattle.paths.specs.Path.{Cutting, parts, notPermitted, tooLong, cutPath}
 use Rattle.volume.specs.Rows.{Entry}
 use Rattle.volume.specs.Volume.{Names}
 use Rattle.volume.specs.Sound.{entryBefore}
 use Rattle.tables.specs.Tables.{foundNode}
 use Rattle.tables.specs.declared.Found.{Found}
 use Rattle.tables.specs.declared.Found.the-variants as found
+use Rattle.names.specs.Walks.{onCutting}
 use Rattle.directories.specs.declared.searching.Searched.{Searched}
 use Rattle.directories.specs.declared.searching.Searched.the-variants as searched
 use Rattle.directories.specs.declared.finding.Reached.{Reached}
 use Rattle.directories.specs.declared.finding.Reached.the-variants.{At, Stopped}
 use Rattle.directories.specs.Searches.{searched}
-use Rattle.directories.specs.Reaches.{reachedBy, reach, reachNext, reachAll, reachOf, reachFrom}
+use Rattle.directories.specs.Reaches.{reachedBy, reach, reachNext, reachAll, reachOf, reachFrom, reachPath}
 use Rattle.directories.proofs.NamedEntry.{searched-found}
 
 module _ (es : List Entry) (asc : Asc entryBefore es) where
@@ -49,8 +53,7 @@ module _ (es : List Entry) (asc : Asc entryBefore es) where
   all-inside (part ∷ ps) r h e = all-inside ps (reachNext es r part) (λ m q. next-inside r part) e
 
 module _ (start : ℕ) (a : Names) (asc : Asc entryBefore (a .entries)) where
-  -- where there is a part, an entry stands there
-  pub place-inside : (ps : List (List ℕ)) → (length ps ≡ 0 → ⊥) → {n p : ℕ} → At n p ≡ reachFrom start a ps → p < length (a .entries)
+  place-inside : (ps : List (List ℕ)) → (length ps ≡ 0 → ⊥) → {n p : ℕ} → At n p ≡ reachFrom start a ps → p < length (a .entries)
   unfolding reachFrom reachOf reachAll
   place-inside [] h e = absurd (h refl)
   place-inside (part ∷ ps) h {n} {p} e = go (foundNode start (a .nodes)) e
@@ -58,3 +61,20 @@ module _ (start : ℕ) (a : Names) (asc : Asc entryBefore (a .entries)) where
       go : (f : Found) → At n p ≡ reachOf (a .entries) start (part ∷ ps) f → p < length (a .entries)
       go (found.At i) z = all-inside (a .entries) asc ps (reachNext (a .entries) (At start 0) part) (λ m q. next-inside (a .entries) asc (At start 0) part) z
       go found.Nothing z = let x : _≡_ {A = ℕ} 0 1 = cc in absurd (omega arith)
+
+  -- where there is a part, an entry stands there
+  pub path-inside : (path : List ℕ) (least : ℕ) → 0 < least → {n p : ℕ} → At n p ≡ reachPath start path least a → p < length (a .entries)
+  unfolding reachPath onCutting pick
+  path-inside path least some {n} {p} e = go (cutPath path) e
+    where
+      refused : {x : Error} → At n p ≡ Stopped x → p < length (a .entries)
+      refused z = let x : _≡_ {A = ℕ} 0 1 = cc in absurd (omega arith)
+
+      enough : (ps : List (List ℕ)) (b : Bool) → ltb (length ps) least ≡ b → At n p ≡ pick b (Stopped PathNotPermitted) (reachFrom start a ps) → p < length (a .entries)
+      enough ps true h z = refused z
+      enough ps false h z = place-inside ps (λ k. absurd (false≢true (sym h ∙ lt-ltb (length ps) least (omega arith)))) z
+
+      go : (c : Cutting) → At n p ≡ onCutting Stopped (λ ps. pick (ltb (length ps) least) (Stopped PathNotPermitted) (reachFrom start a ps)) c → p < length (a .entries)
+      go (parts ps) z = enough ps (ltb (length ps) least) refl z
+      go notPermitted z = refused z
+      go tooLong z = refused z

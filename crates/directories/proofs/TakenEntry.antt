@@ -2,16 +2,14 @@
 -- Assumes nothing.
 use mathlib.Core.Path.{_≡_, refl, sym, ap, _∙_, subst}
 use mathlib.Core.Bool.{not}
-use mathlib.Core.List.{List, [], _∷_}
+use mathlib.Core.List.{List, []}
 use mathlib.Core.Option.{some}
-use Prim.Native.Nat.{ℕ, zero, suc, _-_, _≤_, _<_}
-use native.Mathlib.Nat.{not-suc-le-zero, le-of-suc-le-suc}
+use Prim.Native.Nat.{ℕ, _-_, _≤_, _<_}
 use native.Mathlib.Omega.{arith}
 use lib.ListN.{length, set}
 use lib.Seq.{getD-set-other}
-use borrow.Author.Tests.{lt-ltb, le-ltb}
 use denote.Enum.Declared.{tagOf}
-use Rattle.words.specs.Tables.{Asc, find, lead, leadOf, removeAt}
+use Rattle.words.specs.Tables.{Asc, find, removeAt}
 use Rattle.words.proofs.Rules.{true-says}
 use Rattle.words.proofs.Order.{each-at}
 use Rattle.words.proofs.Only.{each-only, length-both}
@@ -21,18 +19,17 @@ use Rattle.types.specs.declared.NodeRecord.{NodeRecord}
 use Rattle.volume.specs.declared.Layout.{Layout}
 use Rattle.volume.specs.Rows.{Entry, readNode, readEntry}
 use Rattle.volume.specs.Volume.{Names, shown, laid, withNodes, withEntries, onNames}
-use Rattle.volume.specs.Framed.{NodeFits, EntryFits, NamesFits, Fits}
-use Rattle.volume.specs.Search.{nodeUnder}
+use Rattle.volume.specs.Framed.{NodeFits, EntryFits, NamesFits}
 use Rattle.volume.specs.Sound.{node, nodeBefore, DirectoryThere, NodeGood, Good}
 use Rattle.volume.specs.Steps.{changed, withNode}
 use Rattle.volume.proofs.Framed.{fits-nodes, fits-entries}
-use Rattle.tables.specs.Tables.{Ready, layoutAt, nodeAt, entryAt, foundNode}
+use Rattle.tables.specs.Tables.{Ready, nodeAt, entryAt, foundNode}
 use Rattle.tables.specs.declared.Found.{Found}
 use Rattle.tables.specs.declared.Found.the-variants as found
 use Rattle.tables.proofs.Found.{the-type}
-use Rattle.tables.proofs.TableSearch.{node-here, node-found, node-absent}
+use Rattle.tables.proofs.TableSearch.{found-at, node-found, node-absent}
 use Rattle.tables.proofs.NodeRows.{node-is, node-each}
-use Rattle.tables.proofs.ReadyVolume.{shown-as, ready-as}
+use Rattle.tables.proofs.ReadyVolume.{names-step}
 use Rattle.tables.proofs.ChangedRow.{length-changed, order-kept, changed-set, row-set, each-changed}
 use Rattle.files.specs.declared.files.RowAt.{RowAt}
 use Rattle.names.specs.Unlinking.{isEntry, without, unlinked}
@@ -41,31 +38,6 @@ use Rattle.names.proofs.EntryKeys.{says-entry, entry-once, entry-by-key, naming
 use Rattle.names.proofs.Unlinked.{Unlinkable, fewerLinks, smaller, unlink-apart}
 use Rattle.directories.specs.Verdicts.{Leaves}
 use Rattle.tables.specs.OneRow.{sized, linked}
-
--- ---- the place of a node
-
--- a number stands at one place
-lead-at : (n : ℕ) (rs : List NodeRecord) (i : ℕ) → Asc nodeBefore rs → i < length rs → nodeAt rs i .node ≡ n → i ≡ lead (nodeUnder n) rs
-unfolding lead leadOf Asc
-lead-at n [] i a h e = absurd (not-suc-le-zero h)
-lead-at n (r ∷ rs) zero a h e = rw (le-ltb (r .node) n (omega arith)) refl
-lead-at n (r ∷ rs) (suc i) a h e =
-    let k : i < length rs = le-of-suc-le-suc h in
-    let b : r .node < nodeAt rs i .node = each-at (nodeBefore r) rs i (readNode []) (a .0) k in
-    rw (lt-ltb (r .node) n (omega arith)) (ap suc (lead-at n rs i (a .1) k e))
-
--- so a search finds it there
-found-at : (n : ℕ) (rs : List NodeRecord) (i : ℕ) → Asc nodeBefore rs → i < length rs → nodeAt rs i .node ≡ n → found.At i ≡ foundNode n rs
-found-at n rs i a h e = node-here n rs (lead-at n rs i a h e) h refl e
-
--- ---- a step of the names, laid out again: what the bytes then show, and that they are ready
-
-names-step : {l m : List ℕ} {y : Layout} → Ready l y → (b : Names) → NamesFits b → b .nodeRoom ≡ shown l .names .nodeRoom → b .entryRoom ≡ shown l .names .entryRoom
-    → m ≡ laid (onNames (λ _. b) (shown l)) → (shown m ≡ onNames (λ _. b) (shown l)) × Ready m y
-names-step {l} r b f n e q =
-    let fits : Fits (onNames (λ _. b) (shown l)) = record { names = f; store = r .formed .fits .store } in
-    let same : layoutAt (onNames (λ _. b) (shown l)) ≡ layoutAt (shown l) = rw (n, e) in
-    (shown-as (onNames (λ _. b) (shown l)) fits q, ready-as (onNames (λ _. b) (shown l)) fits q (r .layout ∙ sym same))
 
 -- ---- an entry that goes
 

@@ -1,32 +1,26 @@
 -- An unlink as code takes it: the entry that a path leads to, by its place; its refusals, which leave the volume as it was; and its end.
 -- Assumes nothing.
 use mathlib.Core.Path.{_≡_, refl, sym, ap, _∙_}
-use mathlib.Core.Bool.{Bool}
-use mathlib.Core.List.{List}
+use mathlib.Core.List.{List, [], _∷_}
 use mathlib.Core.Option.{some}
-use Prim.Native.Nat.{ℕ, zero, suc, _<_}
+use Prim.Native.Nat.{ℕ, _<_}
 use native.Mathlib.Omega.{arith}
+use lib.Dec.{eqb, ltb}
 use lib.ListN.{length}
-use borrow.Author.Tests.{eq-eqb, ne-eqb}
+use borrow.Author.Tests.{le-ltb, ne-eqb}
 use denote.Enum.Declared.{tagOf}
-use Rattle.words.specs.Tables.{Asc}
-use Rattle.words.proofs.Rules.{pick-true, pick-false}
+use Rattle.words.specs.Rules.{pick}
 use Rattle.types.specs.declared.Answer.{Answer}
 use Rattle.types.specs.declared.Answer.the-variants.{Done, Refused}
 use Rattle.types.specs.declared.Error.{Error}
-use Rattle.types.specs.declared.Error.the-variants.{NoSuchEntry, PathNotPermitted, InvalidArgument}
+use Rattle.types.specs.declared.Error.the-variants.{NoSuchEntry, PathNotPermitted}
 use Rattle.types.specs.declared.Expected.{Expected}
 use Rattle.types.specs.declared.NodeRecord.{NodeRecord}
-use Rattle.paths.specs.Path.{cutPath, endsOpen}
-use Rattle.paths.specs.declared.Cut.{Cut}
-use Rattle.paths.specs.declared.Cut.the-variants.{Parts, NotPermitted, TooLong}
-use Rattle.paths.proofs.Cut as CutType
-use Rattle.paths.proofs.Shown.{length-shown}
-use Rattle.paths.proofs.Bounds.{told-parts, told-refused, told-long}
+use Rattle.paths.specs.Path.{Cutting, parts, notPermitted, tooLong, cutPath}
 use Rattle.volume.specs.declared.Layout.{Layout}
 use Rattle.volume.specs.Rows.{Entry}
 use Rattle.volume.specs.Volume.{Names, Volume, shown, laid, onNames}
-use Rattle.volume.specs.Sound.{node, nodeBefore, entryBefore, Good}
+use Rattle.volume.specs.Sound.{node, Good}
 use Rattle.volume.specs.Steps.{NamesStep, remain, turn, nameStep}
 use Rattle.tables.specs.Tables.{Ready, nodeAt, entryAt, foundNode}
 use Rattle.tables.specs.declared.Found.{Found}
@@ -34,19 +28,18 @@ use Rattle.tables.specs.declared.Found.the-variants as found
 use Rattle.tables.proofs.Found.{the-type}
 use Rattle.tables.proofs.TableSearch.{node-found, node-absent}
 use Rattle.files.proofs.LimitSteps.{Meets}
-use Rattle.names.specs.Walks.{onCutting}
+use Rattle.names.specs.Walks.{onCutting, walkFrom}
 use Rattle.names.specs.Unlinking.{unlinked, unlinkNode, unlinkReached, unlink}
 use Rattle.directories.specs.declared.finding.Reached.{Reached}
 use Rattle.directories.specs.declared.finding.Reached.the-variants.{At, Stopped}
 use Rattle.directories.specs.declared.unlinking.Verdict.{Verdict}
 use Rattle.directories.specs.declared.unlinking.Verdict.the-variants as verdict
-use Rattle.directories.specs.Reaches.{reachFrom}
+use Rattle.directories.specs.Reaches.{reachFrom, reachPath}
 use Rattle.directories.specs.Verdicts.{verdict, Leaves, unlinkAt}
 use Rattle.directories.proofs.unlinking.Verdict as VerdictType
-use Rattle.directories.proofs.ReachedPlace.{place-inside}
+use Rattle.directories.proofs.ReachedPlace.{path-inside}
 use Rattle.directories.proofs.Reaching.{walkShown, reach-shows}
 use Rattle.directories.proofs.Judging.{stepBy, verdict-step, verdict-empty}
-use Rattle.paths.specs.Shown.{Cutout, cutout, shownParts, BoundsFit, CutShows}
 
 -- a step of the names, lifted to a volume
 meets-names : {x : List ℕ} (v : Volume) (s t : NamesStep) → x ≡ laid (onNames (λ _. s .after) v) → s ≡ t → Meets (s .answer) x (nameStep (λ _. t) v)
@@ -109,61 +102,40 @@ module _ (start : ℕ) (path : List ℕ) (want : Expected) (opens : ℕ) (l : Li
   abbrev Ended : Answer → List ℕ → Type 0
   Ended r x = Meets r x (nameStep (unlink start path want opens) (shown l))
 
-  refused : (x : Error) → remain x (shown l .names) ≡ unlink start path want opens (shown l .names) → Ended (Refused x) l
-  refused = refusal (ready .formed .same) (unlink start path want opens)
+  -- what unlink does, by where the path leads
+  abbrev stepOf : Reached → NamesStep
+  stepOf (At n p) = unlinkAt p want opens (shown l .names)
+  stepOf (Stopped x) = remain x (shown l .names)
 
-  pub unlink-barred : (c : Cut) → tagOf CutType.the-type c ≡ 1 → {ss ls : List ℕ} → CutShows path (cutout c ss ls) (cutPath path) (endsOpen path) → Ended (Refused PathNotPermitted) l
-  unfolding unlink onCutting
-  unlink-barred (Parts n d) t told = absurd (omega arith)
-  unlink-barred NotPermitted t told = refused PathNotPermitted (rw (told-refused told refl) refl)
-  unlink-barred TooLong t told = absurd (omega arith)
+  parts-step : (q : List ℕ) (qs : List (List ℕ)) → stepOf (reachFrom start (shown l .names) (q ∷ qs)) ≡ unlinkReached want opens (shown l .names) (walkFrom start (shown l .names) (q ∷ qs))
+  parts-step q qs = go (reachFrom start (shown l .names) (q ∷ qs)) ∙ ap (unlinkReached want opens (shown l .names)) (sym (reach-shows start (shown l .names) (g .named .nodeOrder) (g .named .entryOrder) (q ∷ qs)))
+    where
+      go : (r : Reached) → stepOf r ≡ unlinkReached want opens (shown l .names) (walkShown (shown l .names .entries) (length (q ∷ qs)) r)
+      go (At n p) = unfold unlinkReached walkShown unlinkAt in refl
+      go (Stopped x) = unfold unlinkReached walkShown in refl
 
-  pub unlink-long : (c : Cut) → tagOf CutType.the-type c ≡ 2 → {ss ls : List ℕ} → CutShows path (cutout c ss ls) (cutPath path) (endsOpen path) → Ended (Refused InvalidArgument) l
-  unfolding unlink onCutting
-  unlink-long (Parts n d) t told = absurd (omega arith)
-  unlink-long NotPermitted t told = absurd (omega arith)
-  unlink-long TooLong t told = refused InvalidArgument (rw (told-long told refl) refl)
+  path-steps : stepOf (reachPath start path 1 (shown l .names)) ≡ unlink start path want opens (shown l .names)
+  unfolding unlink reachPath onCutting pick
+  path-steps = go (cutPath path)
+    where
+      go : (c : Cutting) → stepOf (onCutting Stopped (λ ps. pick (ltb (length ps) 1) (Stopped PathNotPermitted) (reachFrom start (shown l .names) ps)) c)
+          ≡ onCutting (λ e. remain e (shown l .names)) (λ ps. pick (eqb (length ps) 0) (remain PathNotPermitted (shown l .names)) (unlinkReached want opens (shown l .names) (walkFrom start (shown l .names) ps))) c
+      go (parts []) = refl
+      go (parts (q ∷ qs)) = rw (le-ltb (length (q ∷ qs)) 1 (omega arith), ne-eqb (length (q ∷ qs)) 0 (λ e. omega arith)) (parts-step q qs)
+      go notPermitted = refl
+      go tooLong = refl
 
-  module _ {c : Cutout} (told : CutShows path c (cutPath path) (endsOpen path)) {n : ℕ} {d : Bool} (cut : c .cut ≡ Parts n d) where
-    abbrev ps : List (List ℕ)
-    ps = shownParts path (c .starts) (c .lengths) n
+  module _ {r : Reached} (h : r ≡ reachPath start path 1 (shown l .names)) where
+    pub unlink-stopped : {x : Error} → r ≡ Stopped x → Ended (Refused x) l
+    unlink-stopped {x} k = refusal (ready .formed .same) (unlink start path want opens) x (ap stepOf (sym k ∙ h) ∙ path-steps)
 
-    many : length ps ≡ n
-    many = length-shown path (c .starts) (c .lengths) n
+    module _ {m p : ℕ} (k : r ≡ At m p) where
+      -- what `unlink_at` asks
+      pub at-asked : Ready l y × Good (shown l) × (p < length (shown l .names .entries))
+      at-asked = (ready, g, path-inside start (shown l .names) (g .named .entryOrder) path 1 (omega arith) (sym k ∙ h))
 
-    pub unlink-nothing : n ≡ 0 → Ended (Refused PathNotPermitted) l
-    unfolding unlink onCutting
-    unlink-nothing e = refused PathNotPermitted (rw (told-parts told cut) (pick-true _ _ _ _ (eq-eqb (length ps) 0 (many ∙ e)) refl))
+      entry-reached : unlinkAt p want opens (shown l .names) ≡ unlink start path want opens (shown l .names)
+      entry-reached = ap stepOf (sym k ∙ h) ∙ path-steps
 
-    -- what `reach_from` asks
-    pub reach-asked : Ready l y × Asc nodeBefore (shown l .names .nodes) × Asc entryBefore (shown l .names .entries) × BoundsFit path (c .starts) (c .lengths) n
-    reach-asked = (ready, g .named .nodeOrder, g .named .entryOrder, told .fits n d cut)
-
-    module _ (part : n ≡ 0 → ⊥) {r : Reached} (h : r ≡ reachFrom start (shown l .names) ps) where
-      some-part : length ps ≡ 0 → ⊥
-      some-part e = part (sym many ∙ e)
-
-      parts-lead : unlinkReached want opens (shown l .names) (walkShown (shown l .names .entries) (length ps) r) ≡ unlink start path want opens (shown l .names)
-      unfolding unlink onCutting
-      parts-lead =
-          ap (unlinkReached want opens (shown l .names)) (ap (walkShown (shown l .names .entries) (length ps)) h ∙ sym (reach-shows start (shown l .names) (g .named .nodeOrder) (g .named .entryOrder) ps))
-          ∙ rw (told-parts told cut) (pick-false _ _ _ _ (ne-eqb (length ps) 0 some-part) refl)
-
-      pub unlink-stopped : {x : Error} → r ≡ Stopped x → Ended (Refused x) l
-      unlink-stopped {x} k = refused x (unfold unlinkReached walkShown in (rw k at parts-lead))
-
-      module _ {m p : ℕ} (k : r ≡ At m p) where
-        -- what `unlink_at` asks
-        pub at-asked : Ready l y × Good (shown l) × (p < length (shown l .names .entries))
-        at-asked = (ready, g, place-inside start (shown l .names) (g .named .entryOrder) ps some-part (sym k ∙ h))
-
-        entry-reached : unlinkAt p want opens (shown l .names) ≡ unlink start path want opens (shown l .names)
-        entry-reached = go (length ps) some-part (rw k at parts-lead)
-          where
-            go : (j : ℕ) → (j ≡ 0 → ⊥) → unlinkReached want opens (shown l .names) (walkShown (shown l .names .entries) j (At m p)) ≡ unlink start path want opens (shown l .names)
-                → unlinkAt p want opens (shown l .names) ≡ unlink start path want opens (shown l .names)
-            go zero z i = absurd (z refl)
-            go (suc j) z i = unfold unlinkReached walkShown unlinkAt in i
-
-        pub unlink-ends : {x : Answer} {o : List ℕ} → Meets x o (nameStep (unlinkAt p want opens) (shown l)) → Ended x o
-        unlink-ends i = (i .0 ∙ ap (λ s. s .answer) entry-reached, i .1 ∙ ap (λ s. laid (onNames (λ _. s .after) (shown l))) entry-reached)
+      pub unlink-ends : {x : Answer} {o : List ℕ} → Meets x o (nameStep (unlinkAt p want opens) (shown l)) → Ended x o
+      unlink-ends i = (i .0 ∙ ap (λ s. s .answer) entry-reached, i .1 ∙ ap (λ s. laid (onNames (λ _. s .after) (shown l))) entry-reached)

@@ -6,12 +6,14 @@ use lib.Dec.{ltb}
 use lib.ListN.{length}
 use Rattle.words.specs.Rules.{pick}
 use Rattle.types.specs.Sizes.{mostName}
-use Rattle.types.specs.declared.Error.the-variants.{NoSuchEntry, BadName}
+use Rattle.types.specs.declared.Error.the-variants.{NoSuchEntry, PathNotPermitted, BadName}
+use Rattle.paths.specs.Path.{cutPath}
 use Rattle.volume.specs.Rows.{Entry}
 use Rattle.volume.specs.Volume.{Names}
 use Rattle.tables.specs.Tables.{entryAt, foundNode}
 use Rattle.tables.specs.declared.Found.{Found}
 use Rattle.tables.specs.declared.Found.the-variants as found
+use Rattle.names.specs.Walks.{onCutting}
 use Rattle.directories.specs.declared.searching.Searched.{Searched}
 use Rattle.directories.specs.declared.searching.Searched.the-variants as searched
 use Rattle.directories.specs.declared.finding.Reached.{Reached}
@@ -43,3 +45,8 @@ reachOf es start ps (found.At i) = reachAll es (At start 0) ps
 -- from a start that has a row
 unfoldable pub reachFrom : ℕ → Names → List (List ℕ) → Reached
 reachFrom start a ps = reachOf (a .entries) start ps (foundNode start (a .nodes))
+
+-- along a path, which has to have at least so many parts
+unfoldable pub reachPath : ℕ → List ℕ → ℕ → Names → Reached
+reachPath start path least a =
+    onCutting Stopped (λ ps. pick (ltb (length ps) least) (Stopped PathNotPermitted) (reachFrom start a ps)) (cutPath path)

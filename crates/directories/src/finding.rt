@@ -17,7 +17,7 @@ ghost use Rattle.volume.specs.Volume.{shown};
 ghost use Rattle.volume.specs.Sound.{Named, nodeBefore, entryBefore};
 ghost use Rattle.tables.specs.Tables.{Ready};
 ghost use Rattle.names.specs.Walks.{findNode};
-ghost use Rattle.directories.specs.Reaches.{reach, reachFrom};
+ghost use Rattle.directories.specs.Reaches.{reach, reachFrom, reachPath};
 
 // The node that parts lead to, and the place of the entry that names it last (0 where there was no part); or why they lead nowhere.
 pub enum Reached {
@@ -63,7 +63,7 @@ fn part_at<'a>(
 }
 
 // Where the parts of a path lead from a start, which has to have a row.
-pub fn reach_from(
+fn reach_from(
     volume: &[u8],
     layout: Layout,
     start: u64,
@@ -93,20 +93,31 @@ pub fn reach_from(
     Reached::At(node, place)
 }
 
-// The node that a path leads to from a start.
-pub fn find_node(volume: &[u8], layout: Layout, start: u64, path: &[u8]) -> Answer
+// Where a path leads from a start. It has to have at least so many parts.
+pub fn reach_path(volume: &[u8], layout: Layout, start: u64, path: &[u8], least: usize) -> Reached
     requires { ⌜ Ready (now volume) layout × Named (shown (now volume) .names) ⌝ }
-    ensures { λ r. ⌜ r ≡ findNode start (now (path .entry)) (shown (now (volume .entry)) .names) ⌝ }
+    ensures { λ r. ⌜ r ≡ reachPath start (now (path .entry)) least (shown (now (volume .entry)) .names) ⌝ }
 {
     let mut starts = [0u16; types::MOST_PARTS];
     let mut lengths = [0u16; types::MOST_PARTS];
     let cut = paths::get_path_parts(path, &mut starts, &mut lengths);
     let count = match cut {
         Cut::Parts(count, _) => count,
-        Cut::NotPermitted => return Answer::Refused(Error::PathNotPermitted),
-        Cut::TooLong => return Answer::Refused(Error::InvalidArgument),
+        Cut::NotPermitted => return Reached::Stopped(Error::PathNotPermitted),
+        Cut::TooLong => return Reached::Stopped(Error::InvalidArgument),
     };
-    let reached = reach_from(volume, layout, start, path, &starts, &lengths, count);
+    if count < least {
+        return Reached::Stopped(Error::PathNotPermitted);
+    }
+    reach_from(volume, layout, start, path, &starts, &lengths, count)
+}
+
+// The node that a path leads to from a start: the start itself, where there is no part.
+pub fn find_node(volume: &[u8], layout: Layout, start: u64, path: &[u8]) -> Answer
+    requires { ⌜ Ready (now volume) layout × Named (shown (now volume) .names) ⌝ }
+    ensures { λ r. ⌜ r ≡ findNode start (now (path .entry)) (shown (now (volume .entry)) .names) ⌝ }
+{
+    let reached = reach_path(volume, layout, start, path, 0);
     match reached {
         Reached::At(node, _) => Answer::Done(node),
         Reached::Stopped(error) => Answer::Refused(error),

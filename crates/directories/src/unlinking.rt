@@ -1,8 +1,7 @@
 // A name taken out of its directory. The node and its bytes stay.
 use crate::finding::Reached;
-use crate::finding::reach_from;
+use crate::finding::reach_path;
 use files::RowAt;
-use paths::Cut;
 use tables::Found;
 use types::Answer;
 use types::Error;
@@ -141,7 +140,7 @@ fn unlink_at(
     Answer::Done(node)
 }
 
-// Takes the name that a path leads to from a start out of its directory. Gives the node that it named.
+// Takes the name that a path leads to from a start out of its directory; a path with no part leads to none. Gives the node that it named.
 pub fn unlink(
     volume: &mut [u8],
     layout: Layout,
@@ -153,18 +152,7 @@ pub fn unlink(
     requires { ⌜ Ready (now volume) layout × Good (shown (now volume)) ⌝ }
     ensures { λ r. ⌜ (r ≡ nameStep (unlink start (now (path .entry)) expected opens) (shown (now (volume .entry))) .answer) × (now (volume .exit) ≡ laid (nameStep (unlink start (now (path .entry)) expected opens) (shown (now (volume .entry))) .after)) ⌝ }
 {
-    let mut starts = [0u16; types::MOST_PARTS];
-    let mut lengths = [0u16; types::MOST_PARTS];
-    let cut = paths::get_path_parts(path, &mut starts, &mut lengths);
-    let count = match cut {
-        Cut::Parts(count, _) => count,
-        Cut::NotPermitted => return Answer::Refused(Error::PathNotPermitted),
-        Cut::TooLong => return Answer::Refused(Error::InvalidArgument),
-    };
-    if count == 0 {
-        return Answer::Refused(Error::PathNotPermitted);
-    }
-    let reached = reach_from(volume, layout, start, path, &starts, &lengths, count);
+    let reached = reach_path(volume, layout, start, path, 1);
     let place = match reached {
         Reached::At(_, place) => place,
         Reached::Stopped(error) => return Answer::Refused(error),

@@ -49,15 +49,18 @@ module _ (p : ℕ) where
   greatest-above [] = tt
   greatest-above (x ∷ es) = let f = greatest-first x es in (f .1, each-map _ _ (λ e h q. omega (arith, f .0, h q)) es (greatest-above es))
 
-  -- it is at most what every index is at most
-  pub greatest-most : (m : ℕ) (es : List Entry) → Each (λ e. e .index ≤ m) es → greatest p es ≤ m
+  -- it is at most what every index of the directory is at most
+  pub greatest-within : (m : ℕ) (es : List Entry) → Each (λ e. e .parent ≡ p → e .index ≤ m) es → greatest p es ≤ m
   unfolding greatest pick Each
-  greatest-most m [] h = omega arith
-  greatest-most m (x ∷ es) h = go (says-both (says-eqb (x .parent) p) (says-ltb (greatest p es) (x .index))) (greatest-most m es (h .1))
+  greatest-within m [] h = omega arith
+  greatest-within m (x ∷ es) h = go (says-both (says-eqb (x .parent) p) (says-ltb (greatest p es) (x .index))) (greatest-within m es (h .1))
     where
       go : {b : Bool} → Says ((x .parent ≡ p) × (greatest p es < x .index)) b → greatest p es ≤ m → pick b (x .index) (greatest p es) ≤ m
-      go (holds k) i = h .0
+      go (holds k) i = h .0 (k .0)
       go (fails k) i = i
+
+  pub greatest-most : (m : ℕ) (es : List Entry) → Each (λ e. e .index ≤ m) es → greatest p es ≤ m
+  greatest-most m es h = greatest-within m es (each-map (λ e. e .index ≤ m) (λ e. e .parent ≡ p → e .index ≤ m) (λ e k _. k) es h)
 
   -- and where it is not the last there is, one is left
   pub index-left : (es : List Entry) → Each EntryFits es → (greatest p es ≡ mostIndex → ⊥) → greatest p es < mostIndex

@@ -4,6 +4,7 @@ pub mod LentAllocator
 pub mod TableSearch
 pub mod NodeRows
 pub mod ChangedRow
+pub mod ChangedPlaces
 pub mod ChangedNames
 pub mod ChunkCursor
 pub mod StoredRows

@@ -11,8 +11,8 @@ use Rattle.types.specs.Sizes.{nameRoom}
 use Rattle.volume.specs.Header.{atChunkRoom, atChunksUsed, atEntriesUsed, atEntryRoom, atNodeRoom, atNodesUsed}
 use Rattle.volume.specs.declared.Layout.{Layout}
 use Rattle.volume.specs.Rows.{readNode, readEntry, readChunk, chunkRow, entryRow, nodeRow}
-use Rattle.volume.specs.Volume.{Store, Volume, atBytes, atChunks, atEntries, atNodes, laid, shown, withStore}
-use Rattle.volume.specs.Framed.{Fits, StoreFits, Framed}
+use Rattle.volume.specs.Volume.{Names, Store, Volume, atBytes, atChunks, atEntries, atNodes, laid, shown, onNames, withStore}
+use Rattle.volume.specs.Framed.{Fits, NamesFits, StoreFits, Framed}
 use Rattle.volume.proofs.Laid.{shown-laid}
 use Rattle.volume.proofs.Framed.{formed-laid, framed-laid}
 use Rattle.tables.specs.Tables.{Ready, layoutAt}
@@ -98,3 +98,11 @@ store-step {l} r t f room e =
     let fits : Fits (withStore t (shown l)) = record { names = r .formed .fits .names; store = f } in
     let same : layoutAt (withStore t (shown l)) ≡ layoutAt (shown l) = rw room in
     (shown-as (withStore t (shown l)) fits e, ready-as (withStore t (shown l)) fits e (r .layout ∙ sym same))
+
+-- the same of the names
+pub names-step : {l m : List ℕ} {y : Layout} → Ready l y → (b : Names) → NamesFits b → b .nodeRoom ≡ shown l .names .nodeRoom → b .entryRoom ≡ shown l .names .entryRoom
+    → m ≡ laid (onNames (λ _. b) (shown l)) → (shown m ≡ onNames (λ _. b) (shown l)) × Ready m y
+names-step {l} r b f n e q =
+    let fits : Fits (onNames (λ _. b) (shown l)) = record { names = f; store = r .formed .fits .store } in
+    let same : layoutAt (onNames (λ _. b) (shown l)) ≡ layoutAt (shown l) = rw (n, e) in
+    (shown-as (onNames (λ _. b) (shown l)) fits q, ready-as (onNames (λ _. b) (shown l)) fits q (r .layout ∙ sym same))

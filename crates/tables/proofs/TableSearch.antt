@@ -2,17 +2,18 @@
 -- Assumes nothing.
 use mathlib.Core.Path.{_≡_, refl, ap}
 use mathlib.Core.Bool.{Bool, true, false}
-use mathlib.Core.List.{List, []}
+use mathlib.Core.List.{List, [], _∷_}
 use mathlib.Core.Option.{none, some}
-use Prim.Native.Nat.{ℕ, _≤_, _<_}
+use Prim.Native.Nat.{ℕ, zero, suc, _≤_, _<_}
+use native.Mathlib.Nat.{not-suc-le-zero, le-of-suc-le-suc}
 use native.Mathlib.Omega.{arith}
 use lib.Dec.{eqb, ltb}
 use lib.ListN.{length}
 use borrow.Author.Tests.{eq-eqb, ne-eqb, lt-ltb, le-ltb, ltb-true, ltb-false}
 use Rattle.words.specs.Rules.{pick, Says, holds, fails}
-use Rattle.words.specs.Tables.{lead, Asc, find}
+use Rattle.words.specs.Tables.{lead, leadOf, Asc, find}
 use Rattle.words.proofs.Rules.{says-ltb, pick-true, pick-false}
-use Rattle.words.proofs.Order.{asc-map}
+use Rattle.words.proofs.Order.{each-at, asc-map}
 use Rattle.words.proofs.Search.{asc-falls, find-found, find-missing}
 use Rattle.types.specs.declared.NodeRecord.{NodeRecord}
 use Rattle.volume.specs.declared.ChunkRow.{ChunkRow}
@@ -48,6 +49,20 @@ module _ (n : ℕ) (rs : List NodeRecord) {i : ℕ} (e : i ≡ lead (nodeUnder n
   pub node-here : {x : ℕ} → i < length rs → x ≡ nodeAt rs i .node → x ≡ n → At i ≡ foundNode n rs
   unfolding foundNode
   node-here h q k = pick-true _ _ _ _ (rw (← e) (lt-ltb i (length rs) h)) (pick-true _ _ _ _ (rw (← e, ← q) (eq-eqb _ _ k)) (ap At e))
+
+-- a number stands at one place of an ascending table
+lead-at : (n : ℕ) (rs : List NodeRecord) (i : ℕ) → Asc nodeBefore rs → i < length rs → nodeAt rs i .node ≡ n → i ≡ lead (nodeUnder n) rs
+unfolding lead leadOf Asc
+lead-at n [] i a h e = absurd (not-suc-le-zero h)
+lead-at n (r ∷ rs) zero a h e = rw (le-ltb (r .node) n (omega arith)) refl
+lead-at n (r ∷ rs) (suc i) a h e =
+    let k : i < length rs = le-of-suc-le-suc h in
+    let b : r .node < nodeAt rs i .node = each-at (nodeBefore r) rs i (readNode []) (a .0) k in
+    rw (lt-ltb (r .node) n (omega arith)) (ap suc (lead-at n rs i (a .1) k e))
+
+-- so a search finds it there
+pub found-at : (n : ℕ) (rs : List NodeRecord) (i : ℕ) → Asc nodeBefore rs → i < length rs → nodeAt rs i .node ≡ n → At i ≡ foundNode n rs
+found-at n rs i a h e = node-here n rs (lead-at n rs i a h e) h refl e
 
 -- ---- what is found is the row looked for, and where nothing is found there is none
 

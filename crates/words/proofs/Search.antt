@@ -29,6 +29,12 @@ unfolding lead
 lead-le f [] = omega arith
 lead-le f (r ∷ rs) = lead-le-of (f r) (lead f rs) (length rs) (lead-le f rs)
 
+-- tests that agree on every row: as many rows lead
+pub lead-same : {R : Type 0} (f g : R → Bool) (rs : List R) → Each (λ r. f r ≡ g r) rs → lead f rs ≡ lead g rs
+unfolding lead Each
+lead-same f g [] h = refl
+lead-same f g (r ∷ rs) h = rw (h .0, lead-same f g rs (h .1))
+
 module _ {R : Type 0} (f : R → Bool) where
   each-at-false : (rs : List R) (k : ℕ) (d : R) → Each (λ s. f s ≡ false) rs → k < length rs → f (getD rs k d) ≡ false
   each-at-false rs k d h b = each-at (λ s. f s ≡ false) rs k d h b
