@@ -7,7 +7,6 @@ use std::path::Path;
 
 use crate::failure::{About, Failure, Outcome};
 use crate::replace::{self, Replacement};
-use crate::store;
 use crate::sys;
 
 /// The name of standard input and of standard output on the command line.
@@ -107,7 +106,7 @@ pub fn write_file(
         Err(error) if error.kind() == io::ErrorKind::NotFound => return make_file(name, fill),
         there => there.about(name)?,
     };
-    if store::is_same(&there, &fs::metadata(volume).about(volume)?) {
+    if replace::is_same(&there, &fs::metadata(volume).about(volume)?) {
         return Err(Failure::declined(name, "is the volume itself"));
     }
     match there.is_file() {

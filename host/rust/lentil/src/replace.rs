@@ -2,7 +2,7 @@
 //! a power cut, finds what was there before or all of the new file.
 
 use std::ffi::{OsStr, OsString};
-use std::fs::{self, File, OpenOptions};
+use std::fs::{self, File, Metadata, OpenOptions};
 use std::io;
 use std::os::unix::ffi::{OsStrExt, OsStringExt};
 use std::os::unix::fs::{FileExt, MetadataExt, OpenOptionsExt};
@@ -55,15 +55,38 @@ impl Replacement {
     }
 
     fn beside(target: &Path, mode: u32) -> io::Result<Replacement> {
-        let (file, temporary) = make_temporary(target, mode)?;
-        let replacement = Replacement {
+        remove_left_overs(target);
+        let first = process::id();
+        for number in first..first.saturating_add(TRIES) {
+            let temporary = temporary_path(target, number);
+            match Replacement::at(temporary, target, mode) {
+                Err(error) if error.kind() == io::ErrorKind::AlreadyExists => (),
+                Err(error) => return Err(error),
+                Ok(replacement) if replacement.is_ours()? => return Ok(replacement),
+                Ok(_) => (),
+            }
+        }
+        Err(io::ErrorKind::AlreadyExists.into())
+    }
+
+    fn at(temporary: PathBuf, target: &Path, mode: u32) -> io::Result<Replacement> {
+        let mut options = OpenOptions::new();
+        let file = options
+            .write(true)
+            .create_new(true)
+            .mode(mode)
+            .open(&temporary)?;
+        Ok(Replacement {
             file,
             temporary,
             target: target.to_path_buf(),
             placed: false,
-        };
-        sys::try_lock(&replacement.file)?;
-        Ok(replacement)
+        })
+    }
+
+    /// Locks it. Before that, another command could take it for a left-over one and remove it.
+    fn is_ours(&self) -> io::Result<bool> {
+        Ok(sys::try_lock(&self.file)? && leads_to(&self.temporary, &self.file))
     }
 
     pub fn file(&self) -> &File {
@@ -96,20 +119,6 @@ impl Drop for Replacement {
     }
 }
 
-fn make_temporary(target: &Path, mode: u32) -> io::Result<(File, PathBuf)> {
-    let mut options = OpenOptions::new();
-    options.write(true).create_new(true).mode(mode);
-    let first = process::id();
-    for number in first..first.saturating_add(TRIES) {
-        let temporary = temporary_path(target, number);
-        match options.open(&temporary) {
-            Err(error) if error.kind() == io::ErrorKind::AlreadyExists => (),
-            answer => return answer.map(|file| (file, temporary)),
-        }
-    }
-    Err(io::ErrorKind::AlreadyExists.into())
-}
-
 fn temporary_path(target: &Path, number: u32) -> PathBuf {
     let mut name = temporary_front(target);
     name.extend(number.to_string().bytes());
@@ -122,19 +131,14 @@ fn temporary_front(target: &Path) -> Vec<u8> {
     [b".", &name[..name.len().min(NAME_KEPT)], MARK].concat()
 }
 
-/// Removes temporary files that killed commands have left beside a file. One that is in work is
-/// locked, and stays.
-pub fn remove_left_overs(target: &Path) {
+/// Removes temporary files that killed commands have left beside a file. They do no harm where they
+/// are, so that a failure is none of the command's.
+fn remove_left_overs(target: &Path) {
     let front = temporary_front(target);
-    let entries = fs::read_dir(folder_of(target))
-        .into_iter()
-        .flatten()
-        .flatten();
-    let names = entries.filter(|entry| is_temporary(&entry.file_name(), &front));
-    for path in names.map(|entry| entry.path()) {
-        if is_left_over(&path).unwrap_or(false) {
-            // It does no harm where it is, so that a failure is none of the command's.
-            let _ = fs::remove_file(&path);
+    let entries = fs::read_dir(folder_of(target)).into_iter().flatten();
+    for entry in entries.flatten() {
+        if is_temporary(&entry.file_name(), &front) {
+            let _ = remove_left_over(&entry.path());
         }
     }
 }
@@ -144,11 +148,29 @@ fn is_temporary(name: &OsStr, front: &[u8]) -> bool {
     !number.is_empty() && number.iter().all(u8::is_ascii_digit)
 }
 
-fn is_left_over(path: &Path) -> io::Result<bool> {
+/// Removes a file unless another command has it locked, and so in work.
+fn remove_left_over(path: &Path) -> io::Result<()> {
     if !path.symlink_metadata()?.is_file() {
-        return Ok(false);
+        return Ok(());
     }
-    sys::try_lock(&File::open(path)?)
+    let file = File::open(path)?;
+    match sys::try_lock(&file)? && leads_to(path, &file) {
+        true => fs::remove_file(path),
+        false => Ok(()),
+    }
+}
+
+/// Whether a path leads to an open file.
+pub fn leads_to(path: &Path, file: &File) -> bool {
+    match (path.metadata(), file.metadata()) {
+        (Ok(there), Ok(here)) => is_same(&there, &here),
+        _ => false,
+    }
+}
+
+/// Whether two files are one.
+pub fn is_same(one: &Metadata, other: &Metadata) -> bool {
+    (one.dev(), one.ino()) == (other.dev(), other.ino())
 }
 
 /// A file that nobody may write to is not replaced either, not even for the system's administrator.

@@ -10,7 +10,6 @@
 use std::ffi::{OsStr, OsString};
 use std::fs::{self, File, OpenOptions};
 use std::io::{self, Read};
-use std::os::unix::fs::MetadataExt;
 use std::path::{Path, PathBuf};
 
 use crate::failure::{About, Failure, Outcome};
@@ -86,8 +85,7 @@ impl Lock {
             if !sys::try_lock(&file).about(name)? {
                 break;
             }
-            if leads_to(&path, &file) {
-                replace::remove_left_overs(&path);
+            if replace::leads_to(&path, &file) {
                 return Ok(Lock {
                     name: name.to_os_string(),
                     path,
@@ -108,7 +106,7 @@ impl Lock {
     fn write(&self, bytes: &[u8]) -> io::Result<()> {
         let new = Replacement::of(&self.file, &self.path)?;
         replace::write_with_holes(new.file(), bytes)?;
-        if !leads_to(&self.path, &self.file) {
+        if !replace::leads_to(&self.path, &self.file) {
             let reason = "was replaced by another program, and stays as that left it";
             return Err(io::Error::new(io::ErrorKind::Other, reason));
         }
@@ -121,19 +119,6 @@ fn demand_replaceable(name: &OsStr, path: &Path, file: &File) -> Outcome<()> {
     replace::demand_writable(file).about(name)?;
     let folder = replace::folder_of(path);
     sys::can_make_files_in(folder).about(folder)
-}
-
-/// Whether a path leads to an open file.
-fn leads_to(path: &Path, file: &File) -> bool {
-    match (path.metadata(), file.metadata()) {
-        (Ok(there), Ok(here)) => is_same(&there, &here),
-        _ => false,
-    }
-}
-
-/// Whether two files are one.
-pub fn is_same(one: &fs::Metadata, other: &fs::Metadata) -> bool {
-    (one.dev(), one.ino()) == (other.dev(), other.ino())
 }
 
 /// Opens a file, but no folder, pipe or device.

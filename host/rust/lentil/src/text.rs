@@ -69,11 +69,15 @@ pub fn quoted(name: &[u8]) -> String {
     }
 }
 
-/// Control characters, and those that change the order or the look of what follows unseen.
+/// Control characters, those that change the order or the look of what follows unseen, and those
+/// that no file of text may have.
 fn is_unsafe(letter: char) -> bool {
     letter.is_control()
         || matches!(letter, '\u{200b}'..='\u{200f}' | '\u{2028}'..='\u{202e}')
-        || matches!(letter, '\u{2060}'..='\u{2069}' | '\u{feff}')
+        || matches!(
+            letter,
+            '\u{2060}'..='\u{2069}' | '\u{feff}' | '\u{fffe}' | '\u{ffff}'
+        )
 }
 
 fn escaped(name: &[u8]) -> String {

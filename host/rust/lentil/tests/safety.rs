@@ -97,7 +97,7 @@ fn of_many_at_once_none_is_lost() {
 fn of_two_new_volumes_one_is_made() {
     let place = Place::new("two_new");
     let running: Vec<Child> = (0..4)
-        .map(|_| place.start(&["new", "v", "--size", "1M"]))
+        .map(|_| place.start(&["new", "v", "--size", "128M"]))
         .collect();
     let answers: Vec<Answer> = running.into_iter().map(finish).collect();
     let made = answers
@@ -127,10 +127,15 @@ fn a_volume_that_another_program_replaces_stays_as_that_left_it() {
 fn a_changed_volume_keeps_its_rights_and_its_holes() {
     let place = Place::new("rights");
     place.run(["new", "v", "--size", "16M"]).done();
+    // Only the administrator can give a file to someone else.
+    place.shell("chown 1234:4321 v");
     fs::set_permissions(place.path("v"), Permissions::from_mode(0o640)).unwrap();
+    let old = fs::metadata(place.path("v")).unwrap();
     place.feed(&["put", "v", "a"], b"a").done();
     let metadata = fs::metadata(place.path("v")).unwrap();
-    assert_eq!(metadata.mode() & 0o777, 0o640);
+    assert_ne!(metadata.ino(), old.ino());
+    assert_eq!(metadata.mode(), old.mode());
+    assert_eq!((metadata.uid(), metadata.gid()), (old.uid(), old.gid()));
     assert!(
         metadata.blocks() * 512 < 1 << 20,
         "{} blocks",

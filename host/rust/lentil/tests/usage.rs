@@ -45,51 +45,76 @@ fn each_command_says_what_it_does() {
     }
 }
 
-#[test]
-fn senseless_command_lines_are_refused() {
-    let place = Place::with_volume("usage");
+/// Runs command lines, each with words that must stand in the answer.
+fn are_misused(test: &str, cases: &[(&[&str], &str)]) {
+    let place = Place::with_volume(test);
     let state = place.state("v");
-    let cases: [(&[&str], &str); 22] = [
-        (&[], "which command?"),
-        (&["fetch"], "there is no command 'fetch'"),
-        (&["new"], "new takes VOLUME."),
-        (&["ls"], "ls takes VOLUME [PATH]."),
-        (&["ls", "v", "a", "b"], "ls takes VOLUME [PATH]."),
-        (&["ls", "--long", "v"], "ls has no option --long."),
-        (&["ls", "-l=3", "v"], "ls -l takes no value."),
-        (&["put", "v", "a", "--at"], "put --at takes OFFSET."),
-        (
-            &["put", "v", "a", "--at", "1.5k"],
-            "--at is a number of bytes",
-        ),
-        (
-            &["put", "v", "a", "--at", "0", "--sparse"],
-            "--at or --sparse",
-        ),
-        (&["get", "v", "a", "--sparse"], "get --sparse needs a FILE"),
-        (
-            &["get", "v", "a", "-", "--sparse"],
-            "get --sparse needs a FILE",
-        ),
-        (&["cut", "v", "a", "-1"], "cut has no option -1."),
-        (&["cut", "v", "a", "all"], "SIZE is a number of bytes"),
-        (&["limit", "v", "a", "\x1b"], "'$'\\x1b''"),
-        (&["new", "w", "--nodes", "0"], "--nodes is 1 to 4096, not 0"),
-        (&["new", "w", "--entries", "4097"], "--entries is 1 to 4096"),
-        (&["new", "w", "--chunks", "4097"], "--chunks is 1 to 4096"),
-        (
-            &["new", "w", "--chunk-size", "8k"],
-            "--chunk-size is 4k, 16k or 64k",
-        ),
-        (&["new", "w", "--size", "64k"], "--size is "),
-        (&["new", "w", "--size", "1G"], "--size is "),
-        (&["new", "w", "--size", "16777216G"], "--size is "),
-    ];
     for (words, reason) in cases {
-        place.run(words).misused(reason);
+        place.run(*words).misused(reason);
     }
     assert!(state == place.state("v"));
     assert_eq!(place.names(), ["v"]);
+}
+
+#[test]
+fn senseless_command_lines_are_refused() {
+    are_misused(
+        "usage",
+        &[
+            (&[], "which command?"),
+            (&["fetch"], "there is no command 'fetch'"),
+            (&["new"], "new takes VOLUME."),
+            (&["ls"], "ls takes VOLUME [PATH]."),
+            (&["ls", "v", "a", "b"], "ls takes VOLUME [PATH]."),
+            (&["ls", "--long", "v"], "ls has no option --long."),
+            (&["ls", "-l=3", "v"], "ls -l takes no value."),
+            (&["put", "v", "a", "--at"], "put --at takes OFFSET."),
+            (
+                &["put", "v", "a", "--at", "1.5k"],
+                "--at is a number of bytes",
+            ),
+            (
+                &["put", "v", "a", "--at", "0", "--sparse"],
+                "--at or --sparse",
+            ),
+            (&["get", "v", "a", "--sparse"], "get --sparse needs a FILE"),
+            (
+                &["get", "v", "a", "-", "--sparse"],
+                "get --sparse needs a FILE",
+            ),
+            (&["cut", "v", "a", "-1"], "cut has no option -1."),
+            (&["cut", "v", "a", "all"], "SIZE is a number of bytes"),
+            (&["limit", "v", "a", "\x1b"], "'$'\\x1b''"),
+        ],
+    );
+}
+
+#[test]
+fn volumes_that_cannot_be_are_not_made() {
+    are_misused(
+        "usage_new",
+        &[
+            (&["new", "w", "--nodes", "0"], "--nodes is 1 to 4096, not 0"),
+            (&["new", "w", "--entries", "4097"], "--entries is 1 to 4096"),
+            (&["new", "w", "--chunks", "4097"], "--chunks is 1 to 4096"),
+            (
+                &["new", "w", "--chunk-size", "8k"],
+                "--chunk-size is 4k, 16k or 64k",
+            ),
+            (
+                &["new", "w", "--size", "64k"],
+                "--size is at least 70880 for such a volume, not 65536",
+            ),
+            (
+                &["new", "w", "--size", "1G"],
+                "--size is at most 269877440 for such",
+            ),
+            (
+                &["new", "w", "--size", "16777216G"],
+                "--size is at most 269877440 for such",
+            ),
+        ],
+    );
 }
 
 #[test]

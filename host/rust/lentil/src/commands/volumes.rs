@@ -170,12 +170,14 @@ impl Wish {
 
 /// Bytes that no chunk could use are no use, so that a size above the most is a mistake.
 fn demand_size(length: u64, least: u64, most: u64) -> Outcome<()> {
-    if (least..=most).contains(&length) {
-        return Ok(());
-    }
+    let (bound, number) = match length {
+        _ if length < least => ("least", least),
+        _ if length > most => ("most", most),
+        _ => return Ok(()),
+    };
     let reason = format!(
-        "--size is {} to {} for such a volume, not {}",
-        least, most, length
+        "--size is at {} {} for such a volume, not {}",
+        bound, number, length
     );
     Err(Failure::usage(reason))
 }
