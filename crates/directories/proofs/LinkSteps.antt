@@ -20,6 +20,7 @@ use Rattle.volume.specs.Volume.{Names, Volume, shown, laid, withNodes, onNames}
 use Rattle.volume.specs.Framed.{NodeFits}
 use Rattle.volume.specs.Sound.{node, NodeGood, Good}
 use Rattle.volume.specs.Steps.{NamesStep, remain, turn, changed}
+use Rattle.volume.specs.Files.{onFile}
 use Rattle.tables.specs.Tables.{Ready, nodeAt, foundNode}
 use Rattle.tables.specs.declared.Found.the-variants as found
 use Rattle.tables.proofs.ChangedRow.{length-changed, order-kept, row-set}
@@ -28,7 +29,6 @@ use Rattle.files.specs.declared.files.RowAt.{RowAt}
 use Rattle.files.specs.declared.files.FileRow.{FileRow}
 use Rattle.files.specs.declared.files.FileRow.the-variants as file
 use Rattle.tables.proofs.ChangedPlaces.{other-place, found-changed}
-use Rattle.files.specs.Files.{onFile}
 use Rattle.files.proofs.FileRows.{IsFile, file-found, file-goes-on, file-refused}
 use Rattle.names.specs.Entering.{withEntry, linkedTo, whereNew, link}
 use Rattle.names.proofs.Grown.{naming-most}

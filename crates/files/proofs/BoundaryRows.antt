@@ -27,6 +27,7 @@ use Rattle.volume.specs.Framed.{Fits}
 use Rattle.volume.specs.Search.{pairBefore}
 use Rattle.volume.specs.Sound.{node, roundUp}
 use Rattle.volume.specs.Steps.{Step, becomes, withNode}
+use Rattle.volume.specs.Files.{onRow, onFile}
 use Rattle.allocator.specs.Allocator.{free, allocate, release, released}
 use Rattle.store.proofs.SizeSet.{unused}
 use Rattle.tables.proofs.NodeRows.{node-is}
@@ -44,7 +45,6 @@ use Rattle.files.proofs.Reshaped.{reshaped}
 use Rattle.tables.proofs.ChangedNames.{node-here}
 use Rattle.files.specs.Read.{readCount, readFile, read}
 use Rattle.files.specs.Resize.{resizeFile, resize}
-use Rattle.files.specs.Files.{onRow, onFile}
 
 -- ---- the volume to start from, as its parts
 

@@ -3,7 +3,7 @@
 use mathlib.Core.Path.{_≡_, refl, sym, _∙_, subst}
 use mathlib.Core.Bool.{Bool, true, false}
 use mathlib.Core.List.{List}
-use mathlib.Core.Option.{Option, none, some}
+use mathlib.Core.Option.{some}
 use Prim.Native.Nat.{ℕ, _<_}
 use native.Mathlib.Omega.{arith}
 use lib.ListN.{length}
@@ -14,11 +14,10 @@ use Rattle.words.proofs.Rules.{pick-true, pick-false}
 use Rattle.types.specs.Nodes.{isDirectory}
 use Rattle.types.specs.declared.Error.{Error}
 use Rattle.types.specs.declared.Error.the-variants.{NoSuchEntry, IsDirectory}
-use Rattle.types.specs.declared.FileType.the-variants.{Directory}
 use Rattle.types.specs.declared.NodeRecord.{NodeRecord}
-use Rattle.types.proofs.Nodes.{no-directory}
 use Rattle.volume.specs.Volume.{Names}
 use Rattle.volume.specs.Sound.{node, nodeBefore}
+use Rattle.volume.specs.Files.{onRow, onFile}
 use Rattle.tables.specs.Tables.{nodeAt, foundNode}
 use Rattle.tables.specs.declared.Found.{Found}
 use Rattle.tables.specs.declared.Found.the-variants.{Nothing}
@@ -29,7 +28,6 @@ use Rattle.tables.proofs.NodeRows.{node-is}
 use Rattle.files.specs.declared.files.RowAt.{RowAt}
 use Rattle.files.specs.declared.files.FileRow.{FileRow}
 use Rattle.files.specs.declared.files.FileRow.the-variants.{At, Refused}
-use Rattle.files.specs.Files.{onRow, onFile}
 use Rattle.files.specs.FileRows.{fileAt, fileFound}
 
 -- ---- the ends of the search
@@ -103,22 +101,3 @@ module _ {X : Type 0} (refuse : Error → X) (call : NodeRecord → X) (n : ℕ)
           let s : e ≡ NoSuchEntry = cc in
           rw (s, node-absent n (a .nodes) asc f) refl
       go (found.At j) f z = row j f (isDirectory (nodeAt (a .nodes) j .kind)) refl z
-
--- ---- either way
-
--- a call on a file is refused, or goes on with the row of a file
-pub data OnFile (X : Type 0) (n : ℕ) (a : Names) (refuse : Error → X) (call : NodeRecord → X) : X → Type 0 where
-  stops : (e : Error) → OnFile X n a refuse call (refuse e)
-  goes-on : (r : NodeRecord) → node n a ≡ some r → r .node ≡ n → (r .kind ≡ Directory → ⊥) → OnFile X n a refuse call (call r)
-
-pub on-file : {X : Type 0} (n : ℕ) (a : Names) (refuse : Error → X) (call : NodeRecord → X) → OnFile X n a refuse call (onFile n a refuse call)
-unfolding onFile onRow pick
-on-file {X} n a refuse call = go (node n a) refl
-  where
-    row : (r : NodeRecord) → node n a ≡ some r → (b : Bool) → isDirectory (r .kind) ≡ b → OnFile X n a refuse call (pick b (refuse IsDirectory) (call r))
-    row r e true k = stops IsDirectory
-    row r e false k = goes-on r e (node-is n a r e) (no-directory (r .kind) k)
-
-    go : (o : Option NodeRecord) → node n a ≡ o → OnFile X n a refuse call (onRow refuse call o)
-    go none e = stops NoSuchEntry
-    go (some r) e = row r e (isDirectory (r .kind)) refl

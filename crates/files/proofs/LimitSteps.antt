@@ -30,13 +30,14 @@ use Rattle.volume.specs.Steps.{Step, stays, becomes, withNode}
 use Rattle.tables.specs.OneRow.{limited}
 use Rattle.tables.proofs.ChangedRow.{row-set, find-other}
 use Rattle.tables.proofs.ChangedNames.{Stands, look-changed, named-changed, fits-changed}
+use Rattle.tables.proofs.Files.{OnFile, stops, goes-on, on-file}
 use Rattle.store.specs.Content.{byteAt}
 use Rattle.files.specs.declared.files.RowAt.{RowAt}
 use Rattle.files.specs.declared.files.FileRow.{FileRow}
 use Rattle.files.specs.declared.files.FileRow.the-variants as row
 use Rattle.files.specs.FileRows.{fileFound}
 use Rattle.files.specs.Limits.{limitFile, setLimit}
-use Rattle.files.proofs.FileRows.{IsFile, file-found, file-goes-on, file-refused, OnFile, stops, goes-on, on-file}
+use Rattle.files.proofs.FileRows.{IsFile, file-found, file-goes-on, file-refused}
 
 -- an answer and the bytes left, as a step says them
 abbrev pub Meets : Answer → List ℕ → Step → Type 0

@@ -17,6 +17,7 @@ use Rattle.volume.specs.Volume.{Volume}
 use Rattle.volume.specs.Framed.{NodeFits, Fits}
 use Rattle.volume.specs.Sound.{nodeBefore, NodeGood, Good}
 use Rattle.tables.proofs.NodeRows.{node-each, size-most}
+use Rattle.tables.proofs.Files.{OnFile, stops, goes-on, on-file}
 use Rattle.store.specs.Content.{byteAt, bytesFrom}
 use Rattle.store.proofs.Content.{length-from, from-at}
 use Rattle.files.specs.declared.files.RowAt.{RowAt}
@@ -25,7 +26,7 @@ use Rattle.files.specs.declared.files.FileRow.the-variants as row
 use Rattle.files.specs.FileRows.{fileFound}
 use Rattle.files.specs.Read.{readCount, readFile, read}
 use Rattle.files.specs.Effects.{Shows}
-use Rattle.files.proofs.FileRows.{IsFile, file-found, file-goes-on, file-refused, OnFile, stops, goes-on, on-file}
+use Rattle.files.proofs.FileRows.{IsFile, file-found, file-goes-on, file-refused}
 
 -- ---- the ends of a read
 

@@ -26,7 +26,6 @@ use Rattle.volume.proofs.Rounding.{lt-up}
 use Rattle.tables.specs.OneRow.{sized, chunk}
 use Rattle.store.specs.Content.{byteAt}
 use Rattle.store.specs.Cut.{cramped, shrunk}
-use Rattle.files.proofs.FileRows.{OnFile, stops, goes-on, on-file}
 use Rattle.files.specs.Resize.{resizeFile, resize}
 use Rattle.files.specs.Effects.{Resized}
 use Rattle.store.specs.Workable.{Workable}
@@ -36,6 +35,7 @@ use Rattle.tables.proofs.NodeRows.{node-is, node-each}
 use Rattle.store.proofs.OwnedContent.{Reached, zero-above, owned-reached}
 use Rattle.files.proofs.Reshaped.{Reshaped, reshaped, sized-kept}
 use Rattle.tables.proofs.ChangedNames.{node-here, node-other}
+use Rattle.tables.proofs.Files.{OnFile, stops, goes-on, on-file}
 use Rattle.store.proofs.Shrunk.{shrunk-size, shrunk-stored, shrunk-fits, shrunk-rows, shrunk-below, shrunk-other, shrunk-low, shrunk-high}
 
 -- ---- the cases of a resize

@@ -29,7 +29,6 @@ use Rattle.tables.specs.OneRow.{sized, chunk}
 use Rattle.store.specs.Content.{byteAt}
 use Rattle.store.specs.Room.{room, holes}
 use Rattle.store.specs.Written.{written}
-use Rattle.files.proofs.FileRows.{OnFile, stops, goes-on, on-file}
 use Rattle.files.specs.Write.{writeFile, write}
 use Rattle.files.specs.Effects.{Wrote, writtenSize}
 use Rattle.store.specs.Workable.{Workable}
@@ -40,6 +39,7 @@ use Rattle.store.proofs.Written.{written-stored, fits-written, written-in, writ
 use Rattle.store.proofs.OwnedContent.{Reached, zero-above, owned-reached}
 use Rattle.files.proofs.Reshaped.{Reshaped, reshaped, sized-kept}
 use Rattle.tables.proofs.ChangedNames.{node-here, node-other}
+use Rattle.tables.proofs.Files.{OnFile, stops, goes-on, on-file}
 
 -- ---- the cases of a write
 

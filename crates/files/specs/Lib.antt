@@ -1,4 +1,3 @@
-pub mod Files
 pub mod FileRows
 pub mod Read
 pub mod Limits

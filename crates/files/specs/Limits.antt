@@ -10,8 +10,8 @@ use Rattle.types.specs.declared.Error.the-variants.{InvalidArgument, FileTooLar
 use Rattle.types.specs.declared.NodeRecord.{NodeRecord}
 use Rattle.volume.specs.Volume.{Volume, onNames}
 use Rattle.volume.specs.Steps.{Step, stays, becomes, withNode}
+use Rattle.volume.specs.Files.{onFile}
 use Rattle.tables.specs.OneRow.{limited}
-use Rattle.files.specs.Files.{onFile}
 
 unfoldable pub limitFile : Limit → Volume → NodeRecord → Step
 limitFile limit v r =

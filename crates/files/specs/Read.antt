@@ -8,8 +8,8 @@ use Rattle.words.specs.Bytes.{over}
 use Rattle.types.specs.Outcomes.{Outcome, refused, done}
 use Rattle.types.specs.declared.NodeRecord.{NodeRecord}
 use Rattle.volume.specs.Volume.{Volume}
+use Rattle.volume.specs.Files.{onFile}
 use Rattle.store.specs.Content.{bytesFrom}
-use Rattle.files.specs.Files.{onFile}
 
 -- how many bytes a read gives
 unfoldable pub readCount : ℕ → ℕ → ℕ → ℕ

@@ -10,9 +10,9 @@ use Rattle.types.specs.declared.Error.the-variants.{FileTooLarge, NoChunkRoom}
 use Rattle.types.specs.declared.NodeRecord.{NodeRecord}
 use Rattle.volume.specs.Volume.{Volume, onNames}
 use Rattle.volume.specs.Steps.{Step, stays, becomes, withNode}
+use Rattle.volume.specs.Files.{onFile}
 use Rattle.tables.specs.OneRow.{sized}
 use Rattle.store.specs.Cut.{cramped, shrunk}
-use Rattle.files.specs.Files.{onFile}
 
 unfoldable pub resizeFile : ℕ → Volume → NodeRecord → Step
 resizeFile z v r =

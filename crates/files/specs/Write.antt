@@ -12,10 +12,10 @@ use Rattle.types.specs.declared.Error.the-variants.{FileTooLarge, NoChunkRoom}
 use Rattle.types.specs.declared.NodeRecord.{NodeRecord}
 use Rattle.volume.specs.Volume.{Volume}
 use Rattle.volume.specs.Steps.{Step, stays, becomes, withNode}
+use Rattle.volume.specs.Files.{onFile}
 use Rattle.tables.specs.OneRow.{sized}
 use Rattle.store.specs.Room.{room, holes}
 use Rattle.store.specs.Written.{written}
-use Rattle.files.specs.Files.{onFile}
 
 unfoldable pub writeFile : ℕ → List ℕ → Volume → NodeRecord → Step
 writeFile offset bs v r =

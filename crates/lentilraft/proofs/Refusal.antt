@@ -29,7 +29,7 @@ use Rattle.files.specs.Read as Read
 use Rattle.files.specs.Write as Write
 use Rattle.files.specs.Resize as Resize
 use Rattle.files.specs.Limits as Limits
-use Rattle.files.proofs.FileRows.{OnFile, stops, goes-on, on-file}
+use Rattle.tables.proofs.Files.{OnFile, stops, goes-on, on-file}
 use Rattle.files.proofs.WriteKept as WriteKept
 use Rattle.files.proofs.ResizeKept as ResizeKept
 use Rattle.files.proofs.LimitSteps.{limit-leaves}

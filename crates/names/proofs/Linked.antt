@@ -21,11 +21,11 @@ use Rattle.volume.specs.Volume.{Names, Store}
 use Rattle.volume.specs.Framed.{NamesFits}
 use Rattle.volume.specs.Sound.{node, DirectoryThere, NodeThere, Named, ChunkOwned, Owned, ChunksOwned}
 use Rattle.volume.specs.Steps.{NamesStep, remain, turn, changed, withNode}
+use Rattle.volume.specs.Files.{onFile}
 use Rattle.tables.proofs.NodeRows.{node-is, node-each}
 use Rattle.tables.proofs.ChangedRow.{length-changed, numbers-kept, order-kept}
 use Rattle.tables.proofs.ChangedNames.{node-other, look-changed}
-use Rattle.files.specs.Files.{onFile}
-use Rattle.files.proofs.FileRows.{OnFile, stops, goes-on, on-file}
+use Rattle.tables.proofs.Files.{OnFile, stops, goes-on, on-file}
 use Rattle.names.specs.Entering.{newEntry, withEntry, linkedTo, whereNew, link}
 use Rattle.names.proofs.Enterable.{OnParent, no-parent, has-parent, on-parent, WhereNew, no-place, has-place, where-new}
 use Rattle.names.proofs.Grown.{target-grows, Follows, grown, parent-follows, other-follows, RowsFollow, grown-kept}

@@ -24,7 +24,7 @@ use Rattle.volume.specs.Search.{entryUnder}
 use Rattle.volume.specs.Volume.{Names, withNextNode, withNodes, withEntries}
 use Rattle.volume.specs.Sound.{node}
 use Rattle.volume.specs.Steps.{NamesStep, remain, turn, withNode}
-use Rattle.files.specs.Files.{onFile}
+use Rattle.volume.specs.Files.{onFile}
 use Rattle.names.specs.Entries.{entryNamed, greatest, onEntry}
 use Rattle.tables.specs.OneRow.{sized, linked}
 

@@ -29,8 +29,8 @@ use Rattle.volume.specs.Volume.{Names, Volume, shown}
 use Rattle.volume.specs.Sound.{node, Sound}
 use Rattle.volume.specs.Steps.{Step, NamesStep}
 use Rattle.volume.specs.Fresh as Fresh
+use Rattle.volume.specs.Files.{onRow, onFile}
 use Rattle.soundness.proofs.Checked.{true-sound}
-use Rattle.files.specs.Files.{onRow, onFile}
 use Rattle.files.specs.Read as Read
 use Rattle.files.specs.Write as Write
 use Rattle.files.specs.Resize as Resize

@@ -3,6 +3,7 @@ pub mod ReadyTables
 pub mod LentAllocator
 pub mod TableSearch
 pub mod NodeRows
+pub mod Files
 pub mod ChangedRow
 pub mod ChangedPlaces
 pub mod ChangedNames

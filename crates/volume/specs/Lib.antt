@@ -9,5 +9,6 @@ pub mod Layouts
 pub mod Search
 pub mod Fresh
 pub mod Sound
+pub mod Files
 pub mod RowTests
 pub mod Steps
