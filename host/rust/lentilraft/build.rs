@@ -28,12 +28,11 @@ fn demand_target() {
     }
 }
 
-/// The archive's path: the one asked for, else where this repository makes it.
+/// The archive's path: the one asked for, else where this repository makes it. One that does not
+/// begin with `/` is meant from this crate's folder.
 fn archive() -> PathBuf {
-    let path = match env::var_os("LENTILRAFT_ARCHIVE") {
-        Some(asked) => PathBuf::from(asked),
-        None => Path::new(&variable("CARGO_MANIFEST_DIR")).join(MADE_HERE),
-    };
+    let asked = env::var_os("LENTILRAFT_ARCHIVE").unwrap_or_else(|| MADE_HERE.into());
+    let path = Path::new(&variable("CARGO_MANIFEST_DIR")).join(asked);
     if !path.is_file() {
         give_up(&format!(
             "there is no archive at {}.\n\

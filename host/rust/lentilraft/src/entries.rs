@@ -46,11 +46,10 @@ impl<'a> Entries<'a> {
         }
     }
 
-    /// Number 2 says that there is no further entry, or no such directory. Only the first call can
-    /// meet the latter, and find tells: no path at all leads from a node to itself.
-    fn is_end(&self, from: u32, error: Error) -> bool {
-        error == Error::NoSuchEntry
-            && (from > 0 || ffi::find_node(self.volume, self.directory.0, b"").is_ok())
+    /// The reason for no further entry is also that for no such directory. Find tells which it is:
+    /// an empty path leads from a node to itself.
+    fn is_end(&self, error: Error) -> bool {
+        error == Error::NoSuchEntry && ffi::find_node(self.volume, self.directory.0, b"").is_ok()
     }
 }
 
@@ -64,7 +63,7 @@ impl<'a> Iterator for Entries<'a> {
                 self.from = entry.index.checked_add(1);
                 Some(Ok(entry))
             }
-            Err(error) if self.is_end(from, error) => None,
+            Err(error) if self.is_end(error) => None,
             Err(error) => Some(Err(error)),
         }
     }

@@ -253,3 +253,46 @@ pub(crate) fn report(volume: &[u8], out: &mut [u8]) -> Result<u64> {
     };
     answer(number, count)
 }
+
+/// Numbers that the types of this crate keep from ever being given.
+#[cfg(test)]
+mod tests {
+    use super::*;
+    use crate::error::Error;
+
+    fn volume() -> Vec<u8> {
+        let mut volume = vec![0; 65_728 + 40 + 280 + 32];
+        new_volume(&mut volume, 1, 1, 1, 4096).unwrap();
+        volume
+    }
+
+    #[test]
+    fn a_short_output_is_refused() {
+        let mut out = [7; 511];
+        assert_eq!(report(&volume(), &mut out), Err(Error::OutputTooShort));
+        assert_eq!(out, [7; 511]);
+    }
+
+    #[test]
+    fn another_chunk_size_is_refused() {
+        let mut volume = volume();
+        assert_eq!(
+            set_chunk_size(&mut volume, 8192),
+            Err(Error::InvalidArgument)
+        );
+        assert_eq!(
+            new_volume(&mut volume, 1, 1, 1, 8192),
+            Err(Error::InvalidArgument)
+        );
+    }
+
+    #[test]
+    fn another_kind_is_refused() {
+        let mut volume = volume();
+        assert_eq!(create(&mut volume, 0, b"f", 3), Err(Error::InvalidArgument));
+        assert_eq!(
+            unlink(&mut volume, 0, b"f", 3, 0),
+            Err(Error::InvalidArgument)
+        );
+    }
+}

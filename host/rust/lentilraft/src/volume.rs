@@ -17,8 +17,9 @@ const REPORT: usize = 512;
 /// A call is carried out in full, or it is refused and has changed nothing. Every call checks the
 /// whole memory first and refuses one that is no sound volume with
 /// [`Error::UnsoundMemory`](crate::Error::UnsoundMemory), whatever its bytes are; so there is no
-/// harm in a volume that comes from a file or from somebody else. Where several reasons to refuse
-/// hold, the first in the list of the call is given.
+/// harm in a volume that comes from a file or from somebody else. The check is most of what a call
+/// costs (docs/PERFORMANCE.md). Where several reasons to refuse hold, the first in the list of the
+/// call is given.
 #[derive(Clone)]
 pub struct Volume<B> {
     memory: B,
@@ -101,7 +102,8 @@ impl<B: AsRef<[u8]>> Volume<B> {
     pub fn report(&self) -> Result<String> {
         let mut text = [0; REPORT];
         let count = ffi::report(self.bytes(), &mut text)?;
-        Ok(String::from_utf8_lossy(&text[..count as usize]).into_owned())
+        let text = text[..count as usize].to_vec();
+        Ok(String::from_utf8(text).expect("a report is plain ASCII"))
     }
 
     /// What the volume knows of a node.
@@ -155,6 +157,20 @@ impl<B: AsRef<[u8]> + AsMut<[u8]>> Volume<B> {
     /// # Errors
     ///
     /// `InvalidArgument`: a room that is not 1 to 4,096, or a memory too short for the rooms.
+    ///
+    /// ```
+    /// use lentilraft::{ChunkSize, Error, Rooms, Volume};
+    ///
+    /// let rooms = Rooms { nodes: 1, entries: 1, chunks: 1 };
+    /// let mut memory = vec![7; rooms.least_length() as usize - 1];
+    /// let refused = Volume::new(&mut memory[..], rooms, ChunkSize::Small);
+    /// assert_eq!(refused.unwrap_err(), Error::InvalidArgument);
+    ///
+    /// memory.push(7);
+    /// let volume = Volume::new(memory, rooms, ChunkSize::Small)?;
+    /// assert_eq!(volume.check(), Ok(()));
+    /// # Ok::<(), Error>(())
+    /// ```
     pub fn new(bytes: B, rooms: Rooms, size: ChunkSize) -> Result<Volume<B>> {
         let mut memory = bytes;
         ffi::new_volume(
@@ -265,6 +281,21 @@ impl<B: AsRef<[u8]> + AsMut<[u8]>> Volume<B> {
     /// # Errors
     ///
     /// `UnsoundMemory`. `NoSuchEntry`: no such node. `Busy`: it has a name, or is the root.
+    ///
+    /// ```
+    /// use lentilraft::{ChunkSize, Error, Expected, Kind, Rooms, Volume, ROOT};
+    ///
+    /// # let rooms = Rooms { nodes: 4, entries: 4, chunks: 4 };
+    /// # let memory = vec![0; rooms.least_length() as usize];
+    /// # let mut volume = Volume::new(memory, rooms, ChunkSize::Small)?;
+    /// let file = volume.create(ROOT, b"hood-7", Kind::File)?;
+    /// assert_eq!(volume.remove(file), Err(Error::Busy));
+    ///
+    /// assert_eq!(volume.unlink(ROOT, b"hood-7", Expected::File, 0), Ok(file));
+    /// assert_eq!(volume.remove(file), Ok(()));
+    /// assert_eq!(volume.remove(file), Err(Error::NoSuchEntry));
+    /// # Ok::<(), Error>(())
+    /// ```
     pub fn remove(&mut self, node: Node) -> Result<()> {
         ffi::remove(self.memory.as_mut(), node.0)
     }

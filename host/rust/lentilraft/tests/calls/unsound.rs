@@ -1,0 +1,114 @@
+//! A volume with one broken byte: every call refuses it, and leaves every byte.
+
+use lentilraft::{ChunkSize, Error, Expected, Kind, Node, Result, Volume, ROOT};
+
+use crate::helpers::{
+    new_volume, refusal, Owned, CHUNK_AREA, CHUNK_ROWS, ENTRY_ROWS, FREE_COUNT, NODE_ROWS, ROOMS,
+};
+
+const FILE: Node = Node(1);
+
+type Call = fn(&mut Owned) -> Result<()>;
+
+/// Every call on a volume but new, as one that a sound volume would carry out.
+const CALLS: [(&str, Call); 18] = [
+    ("check", |v| v.check()),
+    ("read", |v| v.read(FILE, 0, &mut [0; 4]).map(drop)),
+    ("find", |v| v.find(ROOT, b"f").map(drop)),
+    ("next_entry", |v| v.next_entry(ROOT, 0).map(drop)),
+    ("entries", |v| {
+        v.entries(ROOT).try_for_each(|entry| entry.map(drop))
+    }),
+    ("report", |v| v.report().map(drop)),
+    ("node", |v| v.node(FILE).map(drop)),
+    ("written", |v| v.written(FILE).map(drop)),
+    ("geometry", |v| v.geometry().map(drop)),
+    ("set_chunk_size", |v| v.set_chunk_size(ChunkSize::Small)),
+    ("write", |v| v.write(FILE, 0, b"x").map(drop)),
+    ("resize", |v| v.resize(FILE, 2)),
+    ("set_limit", |v| v.set_limit(FILE, Some(9000))),
+    ("set_limit, none", |v| v.set_limit(FILE, None)),
+    ("create", |v| v.create(ROOT, b"g", Kind::File).map(drop)),
+    ("link", |v| v.link(ROOT, b"g", FILE)),
+    ("unlink", |v| {
+        v.unlink(ROOT, b"f", Expected::Any, 0).map(drop)
+    }),
+    ("remove", |v| v.remove(Node(2))),
+];
+
+/// Bytes of the volume below whose lowest bit can not be another one.
+const PLACES: [(&str, usize); 14] = [
+    ("the form", 0),
+    ("the room for nodes", 8),
+    ("nodes used", 32),
+    ("entries used", 40),
+    ("chunks used", 48),
+    ("the marker", 64),
+    ("the chunk size", 72),
+    ("the free count", FREE_COUNT),
+    ("the root's kind", NODE_ROWS + 8),
+    ("the file's links", NODE_ROWS + 40 + 16),
+    ("an unused node row", NODE_ROWS + 40 * 7),
+    ("behind the entry's name", ENTRY_ROWS + 24 + 200),
+    ("the chunk's pointer", CHUNK_ROWS + 16),
+    ("the chunk behind the file's end", CHUNK_AREA + 4095),
+];
+
+/// A root with a file of one chunk, and a file without a name.
+fn sound() -> Owned {
+    let mut volume = new_volume(ChunkSize::Small);
+    assert_eq!(volume.create(ROOT, b"f", Kind::File), Ok(FILE));
+    volume.write(FILE, 0, b"0.52").unwrap();
+    let nameless = volume.create(ROOT, b"g", Kind::File).unwrap();
+    volume.unlink(ROOT, b"g", Expected::File, 0).unwrap();
+    assert_eq!(nameless, Node(2));
+    volume
+}
+
+#[test]
+fn a_sound_volume_carries_every_call_out() {
+    for (name, call) in CALLS {
+        assert_eq!(call(&mut sound()), Ok(()), "{}", name);
+    }
+}
+
+#[test]
+fn every_call_refuses_every_broken_byte() {
+    for (place, at) in PLACES {
+        let mut bytes = sound().into_inner();
+        bytes[at] ^= 1;
+        let mut broken = Volume::over(bytes);
+        for (name, call) in CALLS {
+            let error = refusal(&mut broken, call);
+            assert_eq!(error, Error::UnsoundMemory, "{}: {}", place, name);
+        }
+    }
+}
+
+#[test]
+fn a_refused_read_of_a_broken_volume_leaves_the_buffer() {
+    let mut buffer = *b"kept";
+    let broken = Volume::over([0; 10]);
+    assert_eq!(broken.read(FILE, 0, &mut buffer), Err(Error::UnsoundMemory));
+    assert_eq!(&buffer, b"kept");
+}
+
+#[test]
+fn a_memory_that_was_cut_is_refused() {
+    let bytes = sound().into_inner();
+    for length in [0, 1, 63, 64, 192, NODE_ROWS, CHUNK_AREA, bytes.len() - 1] {
+        let mut cut = Volume::over(bytes[..length].to_vec());
+        for (name, call) in CALLS {
+            let error = refusal(&mut cut, call);
+            assert_eq!(error, Error::UnsoundMemory, "{} bytes: {}", length, name);
+        }
+    }
+}
+
+#[test]
+fn a_broken_volume_is_made_new() {
+    let mut bytes = sound().into_inner();
+    bytes[0] ^= 1;
+    let volume = Volume::new(bytes, ROOMS, ChunkSize::Small).unwrap();
+    assert_eq!(volume.check(), Ok(()));
+}
