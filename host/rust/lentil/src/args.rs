@@ -62,11 +62,9 @@ impl Arguments {
 
     /// The value given last, as with other tools.
     pub fn value(&self, switch: &str) -> Option<&OsStr> {
-        let given = self.switches.iter().rev();
-        given
-            .map(|(name, value)| (*name, value.as_os_str()))
-            .find(|(name, _)| *name == switch)
-            .map(|(_, value)| value)
+        let mut given = self.switches.iter().rev();
+        let found = given.find(|(name, _)| *name == switch);
+        found.map(|(_, value)| value.as_os_str())
     }
 
     pub fn size(&self, switch: &str) -> Outcome<Option<u64>> {
@@ -138,17 +136,15 @@ impl Command {
         words: &mut impl Iterator<Item = OsString>,
     ) -> Outcome<(&'static str, OsString)> {
         let bytes = word.as_bytes();
-        let cut = bytes
-            .iter()
-            .position(|byte| *byte == b'=')
-            .unwrap_or(bytes.len());
-        let (name, joined) = (&bytes[..cut], bytes.get(cut + 1..));
-        let switch = self
-            .options
-            .iter()
-            .find(|switch| switch.name.as_bytes() == name);
-        let switch =
-            switch.ok_or_else(|| self.misused(&format!("has no option {}", text::quoted(name))))?;
+        let cut = bytes.iter().position(|byte| *byte == b'=');
+        let (name, joined) = match cut {
+            Some(cut) => (&bytes[..cut], Some(&bytes[cut + 1..])),
+            None => (bytes, None),
+        };
+        let unknown = || self.misused(&format!("has no option {}", text::quoted(name)));
+        let mut options = self.options.iter();
+        let switch = options.find(|switch| switch.name.as_bytes() == name);
+        let switch = switch.ok_or_else(unknown)?;
         let value = match (switch.value, joined) {
             (None, None) => Some(OsString::new()),
             (None, Some(_)) => None,
@@ -162,17 +158,11 @@ impl Command {
     }
 
     fn demand_places(&self, count: usize) -> Outcome<()> {
-        let most = self.places.split(' ').count();
-        let least = self
-            .places
-            .split(' ')
-            .filter(|place| !place.starts_with('['))
-            .count();
-        match count {
-            _ if count < least || count > most => {
-                Err(self.misused(&format!("takes {}", self.places)))
-            }
-            _ => Ok(()),
+        let places = || self.places.split(' ');
+        let least = places().filter(|place| !place.starts_with('[')).count();
+        match (least..=places().count()).contains(&count) {
+            true => Ok(()),
+            false => Err(self.misused(&format!("takes {}", self.places))),
         }
     }
 
@@ -184,10 +174,9 @@ impl Command {
     }
 
     pub fn help(&self) -> String {
-        let options = if self.options.is_empty() {
-            ""
-        } else {
-            " [OPTION ..]"
+        let options = match self.options {
+            [] => "",
+            _ => " [OPTION ..]",
         };
         let usage = format!("lentil {}{} {}", self.name, options, self.places);
         let mut help = format!("lentil {}: {}\n\nusage: {}\n", self.name, self.about, usage);

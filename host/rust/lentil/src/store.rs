@@ -18,6 +18,9 @@ use crate::sys;
 
 pub type Volume = lentilraft::Volume<Vec<u8>>;
 
+/// The first bytes of every volume.
+const FORM: [u8; 8] = [1, 0, 0, 0, 0, 0, 0, 0];
+
 /// How often a lock is tried if the file is replaced at the same moment.
 const TRIES: u32 = 100;
 
@@ -139,10 +142,16 @@ fn checked(name: &OsStr, file: &mut File) -> Outcome<Volume> {
     Ok(volume)
 }
 
+/// All bytes of a file; but of one that does not begin as a volume does, however long it is, only
+/// so many that the check refuses them.
 fn read_all(file: &mut File) -> io::Result<Vec<u8>> {
-    let length = file.metadata()?.len();
     let mut bytes = Vec::new();
-    let room = bytes.try_reserve_exact(length.try_into().unwrap_or(usize::MAX));
+    file.take(FORM.len() as u64).read_to_end(&mut bytes)?;
+    if bytes != FORM {
+        return Ok(bytes);
+    }
+    let rest = file.metadata()?.len().try_into().unwrap_or(usize::MAX);
+    let room = bytes.try_reserve_exact(rest);
     room.map_err(|_| io::ErrorKind::OutOfMemory)?;
     file.read_to_end(&mut bytes)?;
     Ok(bytes)

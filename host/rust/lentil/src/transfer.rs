@@ -21,22 +21,37 @@ const PIECE: usize = 16 << 20;
 /// No file is larger.
 const GREATEST_FILE: u64 = 1 << 40;
 
+/// What writing must know of a volume. It is asked for once, and not for each file.
+#[derive(Clone, Copy)]
+pub struct Chunks {
+    /// How many bytes each has.
+    span: u64,
+    /// How many bytes all have together: more are never written at once.
+    all: u64,
+}
+
+impl Chunks {
+    pub fn of(volume: &Volume) -> Result<Chunks> {
+        let geometry = volume.geometry()?;
+        let span = geometry.chunk_size.bytes();
+        Ok(Chunks {
+            span,
+            all: geometry.rooms.chunks * span,
+        })
+    }
+}
+
 /// Writes all of a source into a file, at an offset.
 pub fn write_all(
     volume: &mut Volume,
+    chunks: Chunks,
     (node, path): (Node, &[u8]),
     offset: u64,
     source: &mut Source,
 ) -> Outcome<()> {
-    let bytes = read_all(source, greatest_write(volume).about(path)?)?;
+    let bytes = read_all(source, chunks.all)?;
     volume.write(node, offset, &bytes).about(path)?;
     Ok(())
-}
-
-/// More bytes than this are never written at once: there are not so many chunks.
-fn greatest_write(volume: &Volume) -> Result<u64> {
-    let geometry = volume.geometry()?;
-    Ok(geometry.rooms.chunks * geometry.chunk_size.bytes())
 }
 
 /// All bytes of a source. Of one that is too large for the volume, only so many that the store
@@ -60,18 +75,19 @@ fn read_all(source: &mut Source, most: u64) -> Outcome<Vec<u8>> {
 /// zeros stay gaps.
 pub fn write_sparse(
     volume: &mut Volume,
+    chunks: Chunks,
     (node, path): (Node, &[u8]),
     source: &mut Source,
 ) -> Outcome<()> {
-    let span = volume.geometry().about(path)?.chunk_size.bytes();
     let mut progress = Progress::new();
     let mut buffer = vec![0; PIECE];
-    let mut offset = 0;
+    let (mut offset, mut written) = (0, 0);
     while offset <= GREATEST_FILE {
-        offset = source.skip_hole(offset, span)?;
+        offset = source.skip_hole(offset, chunks.span)?;
         let count = source.fill(&mut buffer)?;
-        for run in data_runs(&buffer[..count], span as usize) {
+        for run in data_runs(&buffer[..count], chunks.span as usize) {
             let at = offset + run.start as u64;
+            written = at + run.len() as u64;
             volume.write(node, at, &buffer[run]).about(path)?;
         }
         offset += count as u64;
@@ -80,7 +96,10 @@ pub fn write_sparse(
         }
         progress.at(|| format!("read {}", text::short_size(offset)));
     }
-    grow(volume, node, offset).about(path)
+    match written < offset {
+        true => volume.resize(node, offset).about(path),
+        false => Ok(()),
+    }
 }
 
 /// The stretches of a buffer that hold more than zeros, by whole spans.
@@ -96,14 +115,6 @@ fn data_runs(buffer: &[u8], span: usize) -> Vec<Range<usize>> {
         }
     }
     runs
-}
-
-/// Gives a file the zeros that it ends with.
-fn grow(volume: &mut Volume, node: Node, size: u64) -> Result<()> {
-    match volume.node(node)?.size {
-        old if old < size => volume.resize(node, size),
-        _ => Ok(()),
-    }
 }
 
 /// A stretch of a file's bytes as far as the file has them.

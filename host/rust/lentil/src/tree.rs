@@ -1,6 +1,6 @@
 //! What stands below a directory of a volume, and paths to what does not stand there yet.
 
-use lentilraft::{Error, Info, Kind, Node, Result, ROOT};
+use lentilraft::{Error, Expected, Info, Kind, Node, Result, ROOT};
 
 use crate::progress::Progress;
 use crate::store::Volume;
@@ -122,12 +122,13 @@ fn make_directory(volume: &mut Volume, path: &[u8]) -> Result<Node> {
     }
 }
 
-/// Takes an entry out of its directory, and its node away if that was its last name.
+/// Takes an entry out of its directory, and its node away if that was its last name: the store says
+/// that a node with another name is busy.
 pub fn take_out(volume: &mut Volume, start: Node, path: &[u8]) -> Result<()> {
-    let node = volume.unlink(start, path, lentilraft::Expected::Any, 0)?;
-    match volume.node(node)?.links {
-        0 => volume.remove(node),
-        _ => Ok(()),
+    let node = volume.unlink(start, path, Expected::Any, 0)?;
+    match volume.remove(node) {
+        Err(Error::Busy) => Ok(()),
+        removed => removed,
     }
 }
 

@@ -62,6 +62,20 @@ fn what_is_no_volume_is_refused_by_each_command_and_stays() {
 }
 
 #[test]
+fn a_long_file_that_is_no_volume_is_not_read() {
+    let place = Place::new("long_file");
+    let file = fs::File::create(place.path("long")).unwrap();
+    file.set_len(1 << 40).unwrap();
+    place
+        .run(["ls", "long"])
+        .refused("long: unsound memory (1)");
+    place
+        .run(["mkdir", "long", "a"])
+        .refused("long: unsound memory (1)");
+    assert_eq!(file.metadata().unwrap().len(), 1 << 40);
+}
+
+#[test]
 fn nodes_and_entries_that_are_not_there() {
     let place = place("no_such");
     for command in ["ls", "tree", "map", "get", "rm", "export"] {

@@ -185,9 +185,13 @@ fn left_over_files_go_and_files_in_work_stay() {
     let mut holder = holder.spawn().unwrap();
     let mut said = [0; 5];
     std::io::Read::read_exact(holder.stdout.as_mut().unwrap(), &mut said).unwrap();
-    place.refuses(&["check", "none"], "none: No such file or directory");
     place.run(["check", "v"]).done();
-    assert_eq!(place.names().len(), 6, "who only looks removes nothing");
+    place.refuses(&["rm", "v", "none"], "none: no such node or entry (2)");
+    assert_eq!(
+        place.names().len(),
+        6,
+        "who changes nothing removes nothing"
+    );
     place.run(["mkdir", "v", "a"]).done();
     let mut left = names[1..].to_vec();
     left.sort();
@@ -218,8 +222,7 @@ fn a_read_only_file_is_not_replaced() {
 /// A prefix under which the administrator has no rights that others have not; none if there is no
 /// way, and an empty one if we are not the administrator.
 fn as_anyone(place: &Place) -> Option<String> {
-    let probe = "test ! -w /proc/self/environ-none && touch locked/probe";
-    if place.shell(probe).code != Some(0) {
+    if place.shell("touch locked/probe").code != Some(0) {
         return Some(String::new());
     }
     fs::remove_file(place.path("locked/probe")).unwrap();
@@ -281,7 +284,7 @@ exit $code";
 fn a_full_disk_leaves_the_old_volume() {
     let place = Place::new("full_disk");
     place.run(["new", "v", "--size", "4M"]).done();
-    place.make_file("many", &noise(5, 2 << 20));
+    place.make_file("many", &noise(5, 1 << 16).repeat(32));
     fs::create_dir(place.path("disk")).unwrap();
     place.make_file("script", ON_A_SMALL_DISK.as_bytes());
     let answer = place.shell("unshare -m sh script \"$@\"");
@@ -299,8 +302,8 @@ const KILLS: u32 = 20;
 fn a_put_that_is_killed_leaves_the_old_volume_or_the_new_one() {
     let place = Place::new("killed_put");
     place.run(["new", "v", "--size", "8M"]).done();
-    place.make_file("old", &noise(1, 1 << 20));
-    place.make_file("new", &noise(2, 6 << 20));
+    place.make_file("old", &noise(1, 1 << 16).repeat(16));
+    place.make_file("new", &noise(2, 1 << 16).repeat(96));
     place.run(["put", "v", "a", "old"]).done();
     survives_kills(&place, &["put", "v", "a", "new"]);
 }
@@ -310,8 +313,8 @@ fn an_import_that_is_killed_leaves_the_old_volume_or_the_new_one() {
     let place = Place::new("killed_import");
     place.run(["new", "v", "--size", "8M"]).done();
     fs::create_dir(place.path("in")).unwrap();
-    for number in 0..12 {
-        place.make_file(format!("in/{}", number), &noise(number, 400_000));
+    for number in 0..10 {
+        place.make_file(format!("in/{}", number), &noise(number, 10_000).repeat(25));
     }
     place.run(["mkdir", "v", "old"]).done();
     survives_kills(&place, &["import", "v", "in", "new"]);

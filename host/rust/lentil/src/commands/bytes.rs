@@ -10,7 +10,7 @@ use crate::args::{self, Arguments, Command};
 use crate::failure::{About, Failure, Outcome};
 use crate::host::{self, Source};
 use crate::store::{self, Held, Volume};
-use crate::transfer;
+use crate::transfer::{self, Chunks};
 use crate::tree;
 
 pub const PUT: Command = Command {
@@ -83,12 +83,19 @@ fn put(arguments: &Arguments) -> Outcome<()> {
     let node = file_at(&mut held.volume, path).about(path)?;
     let mut source = Source::open(arguments.place(2))?;
     let volume = &mut held.volume;
+    let chunks = Chunks::of(volume).about(path)?;
     if offset.is_none() {
         volume.resize(node, 0).about(path)?;
     }
     match sparse {
-        true => transfer::write_sparse(volume, (node, path), &mut source)?,
-        false => transfer::write_all(volume, (node, path), offset.unwrap_or(0), &mut source)?,
+        true => transfer::write_sparse(volume, chunks, (node, path), &mut source)?,
+        false => transfer::write_all(
+            volume,
+            chunks,
+            (node, path),
+            offset.unwrap_or(0),
+            &mut source,
+        )?,
     }
     held.save()
 }

@@ -16,7 +16,7 @@ use crate::failure::{About, Failure, Outcome};
 use crate::host::Source;
 use crate::progress::Progress;
 use crate::store::{self, Held, Volume};
-use crate::transfer;
+use crate::transfer::{self, Chunks};
 use crate::tree::{self, Found};
 
 pub const IMPORT: Command = Command {
@@ -49,6 +49,7 @@ fn import(arguments: &Arguments) -> Outcome<()> {
     let path = arguments.path(2);
     let start = tree::make_directories(&mut held.volume, path).about(path)?;
     let mut import = Import {
+        chunks: Chunks::of(&held.volume).about(path)?,
         volume: &mut held.volume,
         sparse: arguments.has("--sparse"),
         linked: HashMap::new(),
@@ -65,6 +66,7 @@ fn import(arguments: &Arguments) -> Outcome<()> {
 
 struct Import<'a> {
     volume: &'a mut Volume,
+    chunks: Chunks,
     sparse: bool,
     /// Files of the host with several names, and the nodes that they have become.
     linked: HashMap<(u64, u64), Node>,
@@ -144,9 +146,10 @@ impl Import<'_> {
             self.linked.insert(number, node);
         }
         let mut source = Source::open(host.as_os_str())?;
+        let (volume, chunks, file) = (&mut *self.volume, self.chunks, (node, path));
         match self.sparse {
-            true => transfer::write_sparse(self.volume, (node, path), &mut source),
-            false => transfer::write_all(self.volume, (node, path), 0, &mut source),
+            true => transfer::write_sparse(volume, chunks, file, &mut source),
+            false => transfer::write_all(volume, chunks, file, 0, &mut source),
         }
     }
 

@@ -2,8 +2,10 @@
 
 use std::env;
 use std::io::{self, Write};
+use std::os::unix::ffi::OsStrExt;
+use std::path::Path;
 
-use lentilraft::{Kind, Node, Result, ROOT};
+use lentilraft::{Info, Kind, Node, Result, ROOT};
 
 use super::option;
 use crate::args::{Arguments, Command};
@@ -76,8 +78,7 @@ fn columns() -> usize {
 }
 
 fn title(arguments: &Arguments) -> String {
-    use std::os::unix::ffi::OsStrExt;
-    let volume = std::path::Path::new(arguments.place(0));
+    let volume = Path::new(arguments.place(0));
     let volume = text::quoted(volume.file_name().unwrap_or_default().as_bytes());
     match arguments.path(1) {
         b"" => volume,
@@ -88,23 +89,23 @@ fn title(arguments: &Arguments) -> String {
 /// The file at a path, or all files below it.
 fn rows(volume: &Volume, path: &[u8]) -> Result<Vec<Row>> {
     let node = volume.find(ROOT, path)?;
-    if volume.node(node)?.kind != Kind::Directory {
+    let info = volume.node(node)?;
+    if info.kind != Kind::Directory {
         let (_, name) = tree::split(path);
-        return Ok(vec![row(volume, name, node)?]);
+        return Ok(vec![row(volume, name, node, &info)?]);
     }
     let mut progress = Progress::new();
     let mut rows = Vec::new();
     for found in tree::below(volume, node)? {
         if found.info.kind == Kind::File {
-            rows.push(row(volume, &found.path, found.node)?);
+            rows.push(row(volume, &found.path, found.node, &found.info)?);
             progress.at(|| format!("looked at {} files", rows.len()));
         }
     }
     Ok(rows)
 }
 
-fn row(volume: &Volume, name: &[u8], node: Node) -> Result<Row> {
-    let info = volume.node(node)?;
+fn row(volume: &Volume, name: &[u8], node: Node, info: &Info) -> Result<Row> {
     let written = volume.written(node)?;
     Ok(Row {
         name: text::quoted(name),

@@ -22,9 +22,17 @@ pub fn program() -> Vec<String> {
     program
 }
 
-/// A folder for one test, empty at its start.
+/// A folder for one test, empty at its start; it goes at the end, unless the test has failed.
 pub struct Place {
     pub folder: PathBuf,
+}
+
+impl Drop for Place {
+    fn drop(&mut self) {
+        if !std::thread::panicking() {
+            let _ = fs::remove_dir_all(&self.folder);
+        }
+    }
 }
 
 impl Place {
