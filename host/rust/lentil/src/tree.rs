@@ -1,6 +1,6 @@
 //! What stands below a directory of a volume, and paths to what does not stand there yet.
 
-use lentilraft::{Error, Expected, Info, Kind, Node, Result, ROOT};
+use lentilraft::{Error, Expected, Info, Kind, Node, Result, Rows, ROOT};
 
 use crate::progress::Progress;
 use crate::store::Volume;
@@ -19,17 +19,18 @@ pub struct Found {
     pub last: bool,
 }
 
-/// All entries below a directory, each directory before what is in it.
+/// All entries below a directory, each directory before what is in it. The volume is checked once.
 ///
 /// A directory has one name at most and the root none, so that no walk comes to one twice.
 pub fn below(volume: &Volume, start: Node) -> Result<Vec<Found>> {
     let mut progress = Progress::new();
-    let mut waiting = entries(volume, start, b"", 0)?;
+    let rows = volume.rows()?;
+    let mut waiting = entries(rows, start, b"", 0)?;
     waiting.reverse();
     let mut found = Vec::new();
     while let Some(next) = waiting.pop() {
         if next.info.kind == Kind::Directory {
-            let inside = entries(volume, next.node, &next.path, next.depth + 1)?;
+            let inside = entries(rows, next.node, &next.path, next.depth + 1)?;
             waiting.extend(inside.into_iter().rev());
         }
         found.push(next);
@@ -39,16 +40,15 @@ pub fn below(volume: &Volume, start: Node) -> Result<Vec<Found>> {
 }
 
 /// The entries of one directory, in the order in which they were made.
-pub fn entries(volume: &Volume, directory: Node, path: &[u8], depth: usize) -> Result<Vec<Found>> {
+pub fn entries(rows: Rows, directory: Node, path: &[u8], depth: usize) -> Result<Vec<Found>> {
     let mut found = Vec::new();
-    for entry in volume.entries(directory) {
-        let entry = entry?;
+    for entry in rows.entries(directory)? {
         found.push(Found {
             path: joined(path, entry.name),
             parent: directory,
             name: entry.name.to_vec(),
             node: entry.node,
-            info: volume.node(entry.node)?,
+            info: rows.node(entry.node)?,
             depth,
             last: false,
         });

@@ -8,9 +8,9 @@
 //! The calls are written and proved in Rattle, and come as an archive that `rt staticlib rim`
 //! makes (docs/PROVED.md says what is proved). This crate links the archive and gives its calls the
 //! form that is usual in Rust. It keeps nothing of its own, so it has nothing to prove but that it
-//! hands on what it is given. Three calls are the exception: [`Volume::node`], [`Volume::written`]
-//! and [`Volume::geometry`] read rows by plain Rust, once the proved check has found the volume
-//! sound.
+//! hands on what it is given. Four calls are the exception: [`Volume::node`], [`Volume::written`],
+//! [`Volume::geometry`] and [`Volume::rows`] read rows by plain Rust, once the proved check has
+//! found the volume sound.
 //!
 //! The archive is for Linux on x86-64.
 //!
@@ -114,7 +114,7 @@ mod volume;
 
 pub use entries::{Entries, Entry};
 pub use error::{Error, Result};
-pub use rows::{Geometry, Info, Stretch};
+pub use rows::{Geometry, Info, Rows, Stretch};
 pub use types::{ChunkSize, Expected, Kind, Node, Rooms, ROOT};
 pub use volume::Volume;
 

@@ -1,10 +1,13 @@
 //! What stands in the rows of a sound volume, read off its bytes by docs/LAYOUT.md. This is plain
 //! safe Rust and not proved; that the volume is sound is what the proved check says first.
 
+use std::fmt;
+
+use crate::entries::Entry;
 use crate::error::{Error, Result};
 use crate::ffi;
 use crate::types::{ChunkSize, Kind, Node, Rooms};
-use crate::types::{CHUNK_ROW, FREE_POINTER, FRONT, NODE_ROW};
+use crate::types::{CHUNK_ROW, ENTRY_ROW, FREE_POINTER, FRONT, NODE_ROW};
 
 /// What a volume knows of a node.
 #[derive(Clone, Copy, Debug, PartialEq, Eq, Hash)]
@@ -60,30 +63,49 @@ const SIZE: u64 = 24;
 const LIMIT: u64 = 32;
 const CHUNK_INDEX: u64 = 8;
 
-/// A volume that the check has found sound, and what its header says.
-pub(crate) struct Sound<'a> {
+/// Where the fields of an entry's row stand; it begins with the directory.
+const TARGET: u64 = 8;
+const INDEX: usize = 16;
+const NAME_LENGTH: usize = 20;
+const NAME: usize = 24;
+
+/// The rows of a volume that the proved check has found sound. They borrow it, so that it stays as it was checked: many
+/// rows are looked at for one check.
+#[derive(Clone, Copy)]
+pub struct Rows<'a> {
     bytes: &'a [u8],
     geometry: Geometry,
 }
 
-impl<'a> Sound<'a> {
-    pub(crate) fn checked(bytes: &'a [u8]) -> Result<Sound<'a>> {
+impl<'a> Rows<'a> {
+    pub(crate) fn checked(bytes: &'a [u8]) -> Result<Rows<'a>> {
         ffi::check(bytes)?;
         let geometry = geometry(bytes)?;
-        Ok(Sound { bytes, geometry })
+        Ok(Rows { bytes, geometry })
     }
 
-    pub(crate) fn geometry(&self) -> Geometry {
+    /// As [`Volume::geometry`](crate::Volume::geometry).
+    pub fn geometry(&self) -> Geometry {
         self.geometry
     }
 
-    pub(crate) fn node(&self, node: Node) -> Result<Info> {
+    /// As [`Volume::node`](crate::Volume::node).
+    ///
+    /// # Errors
+    ///
+    /// `NoSuchEntry`: no such node.
+    pub fn node(&self, node: Node) -> Result<Info> {
         let mut rows = self.node_rows();
         let row = rows.find(|row| word(row, 0) == node.0);
         row.map(info).ok_or(Error::NoSuchEntry)
     }
 
-    pub(crate) fn written(&self, node: Node) -> Result<Vec<Stretch>> {
+    /// As [`Volume::written`](crate::Volume::written).
+    ///
+    /// # Errors
+    ///
+    /// `NoSuchEntry`: no such node. `IsDirectory`.
+    pub fn written(&self, node: Node) -> Result<Vec<Stretch>> {
         let info = self.node(node)?;
         if info.kind == Kind::Directory {
             return Err(Error::IsDirectory);
@@ -98,15 +120,44 @@ impl<'a> Sound<'a> {
         Ok(stretches)
     }
 
+    /// The entries of a directory in index order, as [`Volume::entries`](crate::Volume::entries)
+    /// gives them.
+    ///
+    /// # Errors
+    ///
+    /// `NoSuchEntry`: no such node. `NotDirectory`.
+    pub fn entries(&self, directory: Node) -> Result<impl Iterator<Item = Entry<'a>> + 'a> {
+        if self.node(directory)?.kind != Kind::Directory {
+            return Err(Error::NotDirectory);
+        }
+        let rows = self.entry_rows();
+        let inside = rows.filter(move |row| word(row, 0) == directory.0);
+        Ok(inside.map(entry))
+    }
+
     fn node_rows(&self) -> impl Iterator<Item = &'a [u8]> {
         let start = FRONT + FREE_POINTER * self.geometry.rooms.chunks;
         rows(self.bytes, start, self.geometry.used.nodes, NODE_ROW)
+    }
+
+    fn entry_rows(&self) -> impl Iterator<Item = &'a [u8]> + 'a {
+        let rooms = self.geometry.rooms;
+        let start = FRONT + FREE_POINTER * rooms.chunks + NODE_ROW * rooms.nodes;
+        rows(self.bytes, start, self.geometry.used.entries, ENTRY_ROW)
     }
 
     fn chunk_rows(&self) -> impl Iterator<Item = &'a [u8]> {
         let rooms = self.geometry.rooms;
         let start = rooms.before_chunks() - CHUNK_ROW * rooms.chunks;
         rows(self.bytes, start, self.geometry.used.chunks, CHUNK_ROW)
+    }
+}
+
+impl fmt::Debug for Rows<'_> {
+    fn fmt(&self, out: &mut fmt::Formatter<'_>) -> fmt::Result {
+        out.debug_struct("Rows")
+            .field("geometry", &self.geometry)
+            .finish_non_exhaustive()
     }
 }
 
@@ -140,6 +191,16 @@ fn info(row: &[u8]) -> Info {
     }
 }
 
+/// An entry's row; its name is a part of it.
+fn entry(row: &[u8]) -> Entry<'_> {
+    let length = half_word(row, NAME_LENGTH) as usize;
+    Entry {
+        index: half_word(row, INDEX),
+        node: Node(word(row, TARGET)),
+        name: &row[NAME..NAME + length],
+    }
+}
+
 /// Puts a stretch behind others that end at or before its start; one that ends there grows by it.
 fn append(stretches: &mut Vec<Stretch>, stretch: Stretch) {
     match stretches.last_mut() {
@@ -166,4 +227,8 @@ fn three(bytes: &[u8], at: u64) -> Rooms {
 fn word(bytes: &[u8], at: u64) -> u64 {
     let at = at as usize;
     u64::from_le_bytes(bytes[at..at + 8].try_into().expect("eight bytes"))
+}
+
+fn half_word(bytes: &[u8], at: usize) -> u32 {
+    u32::from_le_bytes(bytes[at..at + 4].try_into().expect("four bytes"))
 }

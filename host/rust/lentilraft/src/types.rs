@@ -90,7 +90,7 @@ pub struct Rooms {
 pub(crate) const FRONT: u64 = 64 + 128;
 /// Bytes of a row of each table, and of a free pointer.
 pub(crate) const NODE_ROW: u64 = 40;
-const ENTRY_ROW: u64 = 280;
+pub(crate) const ENTRY_ROW: u64 = 280;
 pub(crate) const CHUNK_ROW: u64 = 24;
 pub(crate) const FREE_POINTER: u64 = 8;
 /// The least that the chunk area has.

@@ -5,7 +5,7 @@ use std::fmt;
 use crate::entries::{self, Entries, Entry};
 use crate::error::Result;
 use crate::ffi;
-use crate::rows::{Geometry, Info, Sound, Stretch};
+use crate::rows::{Geometry, Info, Rows, Stretch};
 use crate::types::{ChunkSize, Expected, Kind, Node, Rooms};
 
 /// How many bytes every report fits into.
@@ -106,6 +106,20 @@ impl<B: AsRef<[u8]>> Volume<B> {
         Ok(String::from_utf8(text).expect("a report is plain ASCII"))
     }
 
+    /// The volume's rows, checked once: for many questions of [`node`](Volume::node),
+    /// [`written`](Volume::written), [`geometry`](Volume::geometry) and
+    /// [`entries`](Volume::entries), each of which checks the volume for itself.
+    ///
+    /// What the rows say is read off by plain Rust, once the proved check has found the volume
+    /// sound. It is not proved itself.
+    ///
+    /// # Errors
+    ///
+    /// `UnsoundMemory`.
+    pub fn rows(&self) -> Result<Rows<'_>> {
+        Rows::checked(self.bytes())
+    }
+
     /// What the volume knows of a node.
     ///
     /// This is read off the volume's rows by plain Rust, once the proved check has found it sound.
@@ -115,7 +129,7 @@ impl<B: AsRef<[u8]>> Volume<B> {
     ///
     /// `UnsoundMemory`. `NoSuchEntry`: no such node.
     pub fn node(&self, node: Node) -> Result<Info> {
-        Sound::checked(self.bytes())?.node(node)
+        self.rows()?.node(node)
     }
 
     /// The stretches of a file's bytes that have a chunk, in ascending order; those that touch are
@@ -128,7 +142,7 @@ impl<B: AsRef<[u8]>> Volume<B> {
     ///
     /// `UnsoundMemory`. `NoSuchEntry`: no such node. `IsDirectory`.
     pub fn written(&self, node: Node) -> Result<Vec<Stretch>> {
-        Sound::checked(self.bytes())?.written(node)
+        self.rows()?.written(node)
     }
 
     /// What the volume has room for, and how much of it is used.
@@ -140,7 +154,7 @@ impl<B: AsRef<[u8]>> Volume<B> {
     ///
     /// `UnsoundMemory`.
     pub fn geometry(&self) -> Result<Geometry> {
-        Sound::checked(self.bytes()).map(|volume| volume.geometry())
+        self.rows().map(|rows| rows.geometry())
     }
 }
 

@@ -95,7 +95,7 @@ fn long_list(volume: &Volume, path: &[u8]) -> Result<Vec<u8>> {
     let info = volume.node(node)?;
     let listed = match info.kind {
         Kind::Directory => {
-            let found = tree::entries(volume, node, b"", 0)?;
+            let found = tree::entries(volume.rows()?, node, b"", 0)?;
             found
                 .into_iter()
                 .map(|found| (found.name, found.node, found.info))

@@ -5,7 +5,7 @@ use std::io::{self, Write};
 use std::os::unix::ffi::OsStrExt;
 use std::path::Path;
 
-use lentilraft::{Info, Kind, Node, Result, ROOT};
+use lentilraft::{Info, Kind, Node, Result, Rows, ROOT};
 
 use super::option;
 use crate::args::{Arguments, Command};
@@ -89,24 +89,25 @@ fn title(arguments: &Arguments) -> String {
 /// The file at a path, or all files below it.
 fn rows(volume: &Volume, path: &[u8]) -> Result<Vec<Row>> {
     let node = volume.find(ROOT, path)?;
-    let info = volume.node(node)?;
+    let checked = volume.rows()?;
+    let info = checked.node(node)?;
     if info.kind != Kind::Directory {
         let (_, name) = tree::split(path);
-        return Ok(vec![row(volume, name, node, &info)?]);
+        return Ok(vec![row(checked, name, node, &info)?]);
     }
     let mut progress = Progress::new();
     let mut rows = Vec::new();
     for found in tree::below(volume, node)? {
         if found.info.kind == Kind::File {
-            rows.push(row(volume, &found.path, found.node, &found.info)?);
+            rows.push(row(checked, &found.path, found.node, &found.info)?);
             progress.at(|| format!("looked at {} files", rows.len()));
         }
     }
     Ok(rows)
 }
 
-fn row(volume: &Volume, name: &[u8], node: Node, info: &Info) -> Result<Row> {
-    let written = volume.written(node)?;
+fn row(checked: Rows, name: &[u8], node: Node, info: &Info) -> Result<Row> {
+    let written = checked.written(node)?;
     Ok(Row {
         name: text::quoted(name),
         size: info.size,

@@ -44,7 +44,10 @@ fn a_limit_of_0_is_a_limit() {
 
 #[test]
 fn node_and_written_are_refused() {
-    let (volume, _) = with_file();
+    let (volume, file) = with_file();
+    let rows = volume.rows().unwrap();
+    assert_eq!(rows.entries(MISSING).err(), Some(Error::NoSuchEntry));
+    assert_eq!(rows.entries(file).err(), Some(Error::NotDirectory));
     assert_eq!(volume.node(MISSING), Err(Error::NoSuchEntry));
     assert_eq!(volume.written(MISSING), Err(Error::NoSuchEntry));
     assert_eq!(volume.written(ROOT), Err(Error::IsDirectory));
@@ -237,6 +240,10 @@ fn links(volume: &Owned, node: Node) -> u64 {
 }
 
 fn directory_agrees(volume: &Owned, directory: Node, info: Info) {
+    let rows = volume.rows().unwrap();
+    let by_rows: Vec<_> = rows.entries(directory).unwrap().collect();
+    let by_calls: Vec<_> = volume.entries(directory).map(Result::unwrap).collect();
+    assert_eq!(by_rows, by_calls);
     assert_eq!(info.limit, None);
     assert_eq!(info.size, volume.entries(directory).count() as u64);
     assert_eq!(volume.read(directory, 0, &mut []), Err(Error::IsDirectory));
