@@ -5,7 +5,7 @@ The first line of a file there begins with `-- Believed: ` or `-- Inner: `. A pr
 none of them may use an inner one. A believed file may use a law of proofs/, whose statement is then believed, but no definition of proofs/.
 
   believed.py            prints the list as it stands in docs/PROVED.md
-  believed.py --check    prints only what is wrong, and fails too if docs/PROVED.md has another list
+  believed.py --check    prints only what is wrong, and fails too if docs/PROVED.md has another list or, on its first page, other numbers
 
 Fails if a file has neither first line, or if a believed file uses what it may not. Run it from anywhere.
 """
@@ -17,6 +17,7 @@ ROOT = pathlib.Path(__file__).resolve().parent.parent
 FIRST = re.compile(r"-- (Believed|Inner): \S")
 USE = re.compile(r"(?m)^use Rattle·(\w+)(?:·(?:specs|proofs))?\.(specs|proofs)\.([\w.-]+?)(?:\.\{([^}]*)\})?(?: as \S+)?$")
 BEGIN, END = "<!-- believed.py -->", "<!-- end -->"
+FIRST_PAGE_END = "\n## Crate by crate"
 
 
 def lines_of(text):
@@ -69,6 +70,18 @@ def table(believed, types, laws):
     return "\n".join(rows)
 
 
+def stale(page, believed):
+    """Numbers of lines on the first page of docs/PROVED.md, behind a file's name or a crate's, that are not those of now."""
+    lines = {}
+    for (crate, name), count in believed.items():
+        lines.setdefault(name, set()).add(count)
+        lines[crate] = {sum(other for (its, _), other in believed.items() if its == crate)}
+    told = re.findall(r"\b(\w+)(?:/specs)? (\d+)\b", page[: page.index(FIRST_PAGE_END)])
+    wrong = [f"docs/PROVED.md, first page: {name} {count}" for name, count in told if int(count) not in lines.get(name, {int(count)})]
+    all_of_them = f"{sum(believed.values()):,} lines in {len(believed)} files"
+    return wrong + ([] if all_of_them in page else [f"docs/PROVED.md, first page: not {all_of_them}"])
+
+
 def main():
     believed, types, laws, wrong = read()
     text = table(believed, types, laws)
@@ -76,6 +89,7 @@ def main():
         page = (ROOT / "docs/PROVED.md").read_text()
         if f"{BEGIN}\n{text}\n{END}" not in page:
             wrong.append("docs/PROVED.md has another list")
+        wrong += stale(page, believed)
     else:
         print(text)
     print(*wrong, sep="\n", end="\n" if wrong else "", file=sys.stderr)
