@@ -177,6 +177,14 @@ LAST_INDEX = (
     + [volume(4, 2, 4), create(0, b"a"), create(0, b"b"), poke(192 + 8 * 4 + 40 * 4 + 280 + 16, b"\xff" * 4), create(0, b"c"), link(0, b"c", 1), unlink(0, b"a"), link(0, b"c", 2), create(0, b"c"), unlink(0, b"b"), create(0, b"c")]
 )
 
+# A directory that is its own entry, which is sound, though no call makes one: found, listed, filled, and never taken out.
+OWN_ENTRY = (
+    [volume(*ROOMS), create(0, b"d", DIRECTORY), Breaking(poke_word(ENTRY_ROWS, 1)), Breaking(poke_word(NODE_ROWS + 24, 0)), poke_word(NODE_ROWS + 40 + 24, 1)]
+    + [find(1, b"d"), find(1, b"d/d/./d"), find(0, b"d"), following(1, 0), following(1, 2), following(0, 0)]
+    + [unlink(1, b"d"), unlink(1, b"d/d", WANT_DIRECTORY), unlink(1, b"d", WANT_FILE, 1), unlink(0, b"d"), remove(1), create(1, b"d"), link(1, b"d", 1), link(1, b"x", 1)]
+    + [create(1, b"f"), link(1, b"d/g", 2), link(1, b"g", 2), find(1, b"d/d/g"), write(2, 4095, 3), unlink(1, b"d/d/f"), unlink(1, b"d/g", WANT_FILE), remove(2), unlink(1, b"d"), following(1, 1), report(512)]
+)
+
 # Another chunk size: only while no pointer was given out, not even one that came back.
 SIZES = (
     [volume(*ROOMS, 16384), create(0, b"a"), chunk_size(0), chunk_size(4095), chunk_size(8192), chunk_size(NEVER), chunk_size(4096), chunk_size(65536), chunk_size(16384), resize(1, LARGEST), chunk_size(4096), chunk_size(16384)]
@@ -250,7 +258,7 @@ def as_meant(line, answer):
 
 def main():
     folder = pathlib.Path(sys.argv[1]) if len(sys.argv) > 1 else HERE.parent / "crates/name_vectors"
-    runs = NAMES + PATHS + FULL + ROOM + LAST_NODE + LAST_INDEX + SIZES + REPORTS + BROKEN + LOOSE + SHORT + REFUSED_NEW
+    runs = NAMES + PATHS + FULL + ROOM + LAST_NODE + LAST_INDEX + SIZES + REPORTS + BROKEN + LOOSE + SHORT + REFUSED_NEW + OWN_ENTRY
     lines = [line for call in runs for line in (call, SUM)]
     answers = list(model.worked_out("name_vectors", "\n".join(lines), False))
     assert not amiss(lines, answers), amiss(lines, answers)
