@@ -16,7 +16,7 @@ const NODES: u64 = 4_096;
 const ROWS: u64 = 12;
 
 // Makes the call with as much of the buffer as it is lent, and prints its answer.
-pub fn call(volume: &mut [u8], draw: Draw, span: u64, buffer: &mut [u8]) {
+pub(crate) fn call(volume: &mut [u8], draw: Draw, span: u64, buffer: &mut [u8]) {
     let kind = draws::kind_of(draw);
     let n = draws::at_most(draws::lent(kind, draw.length, span), buffer.len());
     ask(volume, kind, draw, span, &mut buffer[..n]);

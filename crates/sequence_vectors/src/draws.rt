@@ -16,7 +16,7 @@ const LARGE: u64 = 65_536;
 const NO_SIZE: u64 = 8_192;
 
 // The chunks at a file's front in which most calls work, and which are shown.
-pub const WINDOW: u64 = 4;
+pub(crate) const WINDOW: u64 = 4;
 
 // Places next to an edge: so many before it, and so many in all.
 const BEFORE: u64 = 2;
@@ -30,7 +30,7 @@ const FEW: u64 = 9;
 const LEAST_OUTPUT: u64 = 512;
 
 // What is rare happens once in so many draws.
-pub const SELDOM: u64 = 8;
+pub(crate) const SELDOM: u64 = 8;
 
 // Draws among the calls.
 const CALLS: u64 = 64;
@@ -41,7 +41,7 @@ const LETTERS: u64 = 4;
 const DIGITS: u64 = 32;
 
 // What is drawn for one call. The last number is what the next call is drawn from.
-pub struct Draw {
+pub(crate) struct Draw {
     pub kind: u64,
     pub node: u64,
     pub other: u64,
@@ -50,7 +50,7 @@ pub struct Draw {
     pub text: u64,
 }
 
-pub enum Kind {
+pub(crate) enum Kind {
     Read,
     Write,
     Resize,
@@ -67,7 +67,7 @@ pub enum Kind {
     NewVolume,
 }
 
-pub fn drawn(state: u64) -> Draw {
+pub(crate) fn drawn(state: u64) -> Draw {
     let kind = joined(state, 0);
     let node = joined(kind, 0);
     let other = joined(node, 0);
@@ -84,12 +84,12 @@ pub fn drawn(state: u64) -> Draw {
 }
 
 // A step of the generator, to which a number is added: so many numbers are told by one.
-pub fn joined(state: u64, number: u64) -> u64 {
+pub(crate) fn joined(state: u64, number: u64) -> u64 {
     (state % PRIME * FACTOR + number % PRIME) % PRIME
 }
 
 // Which call, and how often each is drawn.
-pub fn kind_of(draw: Draw) -> Kind {
+pub(crate) fn kind_of(draw: Draw) -> Kind {
     let n = draw.kind % CALLS;
     match n {
         0..=4 => Kind::Read,
@@ -110,7 +110,7 @@ pub fn kind_of(draw: Draw) -> Kind {
 }
 
 // So many chunks of a size, four at most, in bytes.
-pub fn chunks(n: u64, span: u64) -> u64
+pub(crate) fn chunks(n: u64, span: u64) -> u64
     ensures { λ r. ⌜ r ≤ 262144 ⌝ }
 {
     match span {
@@ -120,7 +120,7 @@ pub fn chunks(n: u64, span: u64) -> u64
     }
 }
 
-pub fn chunk_size(draw: u64) -> u64 {
+pub(crate) fn chunk_size(draw: u64) -> u64 {
     let n = draw % 4;
     match n {
         0 => SMALL,
@@ -131,7 +131,7 @@ pub fn chunk_size(draw: u64) -> u64 {
 }
 
 // A byte of a file, a size or a limit: next to the end of a chunk, anywhere in the window, or next to the greatest size.
-pub fn place(draw: u64, span: u64) -> u64 {
+pub(crate) fn place(draw: u64, span: u64) -> u64 {
     let n = draw % 8;
     let rest = draw / 8;
     match n {
@@ -152,7 +152,7 @@ fn around(edge: u64, draw: u64) -> u64
 }
 
 // How many bytes a call is lent: the data of a read or write, a name, a path, an output.
-pub fn lent(kind: Kind, draw: u64, span: u64) -> u64 {
+pub(crate) fn lent(kind: Kind, draw: u64, span: u64) -> u64 {
     match kind {
         Kind::Read | Kind::Write => data_length(draw, span),
         Kind::Create | Kind::Link => name_length(draw),
@@ -195,7 +195,7 @@ fn path_length(draw: u64) -> u64 {
 }
 
 // A name or a path, by the digits of a number.
-pub fn spell(out: &mut [u8], text: u64, is_path: bool) {
+pub(crate) fn spell(out: &mut [u8], text: u64, is_path: bool) {
     let mut rest = text;
     let mut i = 0;
     while i < out.len() {
@@ -218,7 +218,7 @@ fn letter(digit: u64, is_path: bool, i: usize) -> u8 {
 }
 
 // The number, or the greatest that is allowed.
-pub fn at_most(n: u64, most: usize) -> usize
+pub(crate) fn at_most(n: u64, most: usize) -> usize
     ensures { λ r. ⌜ r ≤ most ⌝ }
 {
     if (most as u64) < n {

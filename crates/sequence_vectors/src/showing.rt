@@ -16,24 +16,24 @@ struct Listed {
     behind: u32,
 }
 
-pub fn print_answer(answer: Answer) {
+pub(crate) fn print_answer(answer: Answer) {
     io::print_decimal(STDOUT_FILENO, types::number(answer) as u64);
     print_number(types::value(answer));
 }
 
-pub fn print_entry(volume: &[u8], directory: u64, from: u32) {
+pub(crate) fn print_entry(volume: &[u8], directory: u64, from: u32) {
     let entry = entry_from(volume, directory, from);
     io::print_decimal(STDOUT_FILENO, entry.number as u64);
     print_number(entry.told);
 }
 
-pub fn print_number(n: u64) {
+pub(crate) fn print_number(n: u64) {
     io::write_all(STDOUT_FILENO, b" ");
     io::print_decimal(STDOUT_FILENO, n);
 }
 
 // A number for every node, in ascending order.
-pub fn show(volume: &[u8], buffer: &mut [u8]) {
+pub(crate) fn show(volume: &[u8], buffer: &mut [u8]) {
     let Place::At(layout) = soundness::open(volume) else {
         io::write_all(STDOUT_FILENO, b" unsound");
         return;
