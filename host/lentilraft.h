@@ -74,8 +74,8 @@ uint32_t lentilraft_read(const uint8_t *volume, size_t length, uint64_t node, ui
    1: unsound memory. 2: no such node. 3: a directory. 5: the end lies above the file's limit. 6: no room for the chunks. */
 uint32_t lentilraft_write(uint8_t *volume, size_t length, uint64_t node, uint64_t offset, const uint8_t *bytes, size_t bytes_length, uint64_t *count);
 
-/* Cuts or extends a file. What lies above its old size reads as zero; what is cut off is gone.
-   1: unsound memory. 2: no such node. 3: a directory. 5: above the file's limit. 6: the last chunk is a hole, and there is no room for it. */
+/* Cuts or extends a file. What lies above its old size reads as zero; what is cut off is gone. It takes no chunk, so that it needs no room.
+   1: unsound memory. 2: no such node. 3: a directory. 5: above the file's limit. */
 uint32_t lentilraft_resize_file(uint8_t *volume, size_t length, uint64_t node, uint64_t size);
 
 /* Sets a limit of a file's size, at most 2^40 and not below its size; or clears it, so that 2^40 is the limit.

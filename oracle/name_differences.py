@@ -77,6 +77,11 @@ CASES = [
     ("resize-unlimited", [f], [("to 2^60", resize(1, 2**60))]),
     ("shrink-cut-index", [f, write(1, 0, 1)], [("to 2^47", resize(1, 2**47))]),
     ("room", [f], [("five chunks where there is room for four", write(1, 0, 65537))]),
+    (
+        "cut-hole",
+        [f, g, write(1, 0, 65536), resize(2, 40000)],
+        [("to 20,000, where there is no room", resize(2, 20000)), ("then two bytes there", write(2, 20000, 2))],
+    ),
     ("name-twice", [f], [("create f twice", f)]),
     ("name-bad", [], [("create %r" % name, create(0, FILE, name)) for name in (b"", b".", b"..", b"a/b")]),
     (

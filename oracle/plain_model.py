@@ -229,16 +229,10 @@ class Volume:
 
     def shrink(self, n, size):
         S = self.S
+        self.free_from(n, -(-size // S))
         of_node = self.chunks.get(n, {})
-        behind = -(-size // S)
-        needs_one = size % S != 0 and size // S not in of_node
-        frees_one = any(index >= behind for index in of_node)
-        refuse_if(needs_one and not frees_one and self.room() < 1, NO_CHUNK_ROOM)
-        self.free_from(n, behind)
-        if needs_one:
-            self.take(n, size // S)
-        if size % S != 0:
-            start = self.chunks[n][size // S]
+        if size // S in of_node:
+            start = of_node[size // S]
             self.area[start + size % S : start + S] = bytes(S - size % S)
 
     def set_limit(self, n, limit):

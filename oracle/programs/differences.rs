@@ -26,6 +26,7 @@ fn main() {
     allocator_opens();
     allocator_calls();
     sizes_and_limits();
+    cuts_in_holes();
     directories_as_files();
     removal();
     new_names();
@@ -104,7 +105,7 @@ fn entries(volume: &Volume, directory: Node) -> Vec<(u32, Node, String)> {
     found
 }
 
-/// The rows of the scope's boundary table, which are no differences.
+/// The rows of the scope's boundary table that are no differences.
 fn boundary_rows() {
     let (mut v, f) = one_file();
     let written = v.write(f, 16383, b"abc");
@@ -117,9 +118,6 @@ fn boundary_rows() {
     let (mut v, f) = one_file();
     let written = v.write(f, (1 << 40) - 1, b"x");
     show("P6", "rows", (written, v.chunk_rows(f)));
-    let (mut v, f) = one_file();
-    let resized = (v.resize(f, 40000), v.resize(f, 20000));
-    show("P7", "rows", (resized, v.chunk_rows(f)));
     let paths = ["a/../..", "a/../b", "./a//b/", "..."];
     for (row, path) in ["P8", "P9", "P10", "P11"].into_iter().zip(paths) {
         show(row, path, structure_helpers::path_parts(path));
@@ -227,6 +225,18 @@ fn sizes_and_limits() {
     let f = new_file(&mut v, "f").unwrap();
     let written = v.write(f, 0, &vec![1; 4097 * 4096]);
     show("room", "4,097 chunks", written);
+}
+
+/// Cuts that end in a hole. The first is P7 of the boundary table.
+fn cuts_in_holes() {
+    let (mut v, f) = one_file();
+    v.resize(f, 40000).unwrap();
+    let cut = (v.resize(f, 20000), v.chunk_rows(f), v.free_pointers());
+    show("cut-hole", "empty, to 40,000, to 20,000: rows, free", cut);
+    let (mut v, f) = one_file();
+    v.write(f, 40000, b"x").unwrap();
+    let cut = (v.resize(f, 20000), v.chunk_rows(f), v.free_pointers());
+    show("cut-hole", "x at 40,000, to 20,000: rows, free", cut);
 }
 
 fn directories_as_files() {

@@ -1,5 +1,8 @@
 //! The Rust, asked by the scope's calls. It may number nodes otherwise, since a create that it
-//! refuses uses a number up; so each node that a create gives has two numbers, kept here.
+//! refuses uses a number up; so each node that a create gives has two numbers, kept here. And it
+//! takes a chunk for a cut that ends in a hole, which the scope leaves one; so these are kept, too.
+
+use std::collections::BTreeSet;
 
 use crate::{
     bytes::filled,
@@ -29,6 +32,9 @@ pub struct Numbered {
     rust: Volume,
     /// The Rust's number of each node that was given, by the scope's.
     nodes: Vec<Node>,
+    /// The chunks that the Rust took for cuts: by the scope's node and the index, where the scope
+    /// has a hole until it is written.
+    taken_by_cuts: BTreeSet<(u64, u64)>,
 }
 
 impl Numbered {
@@ -38,6 +44,7 @@ impl Numbered {
             chunk_size: chunk_size as u64,
             rust: Volume::new(chunk_size),
             nodes: vec![0],
+            taken_by_cuts: BTreeSet::new(),
         }
     }
 
@@ -77,12 +84,20 @@ impl Numbered {
                 length,
                 seed,
             } => {
-                let node = number(node);
-                self.rust.write(node, offset, &filled(seed, length))
+                let bytes = filled(seed, length);
+                let count = self.rust.write(number(node), offset, &bytes)?;
+                let (first, behind) = scope::touched(self.chunk_size, offset, length);
+                let is_hole = |at: &(u64, u64)| at.0 != node || at.1 < first || behind <= at.1;
+                self.taken_by_cuts.retain(is_hole);
+                Ok(count)
             }
             &Call::Resize { node, size } => {
-                let node = number(node);
-                self.rust.resize(node, size).map(|()| 0)
+                let before = self.chunks_of_rust(node);
+                self.rust.resize(self.of_rust(node), size)?;
+                let after = self.chunks_of_rust(node).into_iter();
+                let taken = after.filter(|index| !before.contains(index));
+                self.taken_by_cuts.extend(taken.map(|index| (node, index)));
+                Ok(0)
             }
             &Call::SetLimit { node, limit } => {
                 let node = number(node);
@@ -173,6 +188,12 @@ impl Numbered {
 
     /// The indexes at which a file has a chunk.
     pub fn chunks(&self, node: u64) -> Vec<u64> {
+        let mut indexes = self.chunks_of_rust(node);
+        indexes.retain(|&index| !self.taken_by_cuts.contains(&(node, index)));
+        indexes
+    }
+
+    fn chunks_of_rust(&self, node: u64) -> Vec<u64> {
         let rows = self.rust.chunk_rows(self.of_rust(node));
         rows.iter().map(|row| row.0 as u64).collect()
     }

@@ -108,8 +108,7 @@ pub fn left_out(call: &Call, volume: &Numbered) -> Option<&'static str> {
         } => on_directory(volume, node, "directory-write")
             .or(when(offset.checked_add(length).is_none(), "write-wraps"))
             .or(when(cramped_write(volume, node, offset, length), "room")),
-        &Call::Resize { node, size } => on_directory(volume, node, "directory-resize")
-            .or(when(cramped_resize(volume, node, size), "room")),
+        &Call::Resize { node, .. } => on_directory(volume, node, "directory-resize"),
         &Call::SetLimit { node, limit } => on_directory(volume, node, "directory-limit").or(when(
             limit.is_some_and(|limit| limit > FILE_LIMIT),
             "limit-above",
@@ -199,26 +198,23 @@ pub fn chunk_room(volume: &Numbered) -> u64 {
     most - used as u64
 }
 
+/// The indexes that a write touches: the first, and the one behind the last.
+pub fn touched(chunk_size: u64, offset: u64, length: u64) -> (u64, u64) {
+    let first = offset / chunk_size;
+    match length {
+        0 => (first, first),
+        _ => (first, (offset + length).div_ceil(chunk_size)),
+    }
+}
+
 fn cramped_write(volume: &Numbered, node: u64, offset: u64, length: u64) -> bool {
-    let end = offset.saturating_add(length);
-    if length == 0 || end > FILE_LIMIT {
+    if offset.saturating_add(length) > FILE_LIMIT {
         return false;
     }
-    let (first, behind) = (offset / volume.chunk_size, end.div_ceil(volume.chunk_size));
+    let (first, behind) = touched(volume.chunk_size, offset, length);
     let chunks = volume.chunks(node);
     let there = chunks
         .iter()
         .filter(|index| (first..behind).contains(*index));
     behind - first - there.count() as u64 > chunk_room(volume)
-}
-
-/// A cut that takes a chunk and frees none.
-fn cramped_resize(volume: &Numbered, node: u64, size: u64) -> bool {
-    let shrinks = volume.metadata(node).is_some_and(|old| size < old.size);
-    if !shrinks || size % volume.chunk_size == 0 {
-        return false;
-    }
-    let last = size / volume.chunk_size;
-    let keeps_all_but_last = volume.chunks(node).iter().all(|&index| index < last);
-    keeps_all_but_last && chunk_room(volume) == 0
 }

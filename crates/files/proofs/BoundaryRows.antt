@@ -4,15 +4,15 @@ use mathlib.Core.Path.{_≡_, refl, sym, ap, _∙_, subst}
 use mathlib.Core.Bool.{false}
 use mathlib.Core.List.{List, [], _∷_}
 use mathlib.Core.Option.{some}
-use Prim.Native.Nat.{ℕ, _+_, _^_, _≤_, _<_}
+use Prim.Native.Nat.{ℕ, _+_, _^_, _≤_}
 use native.Mathlib.Omega.{arith}
 use lib.ListN.{length, take, length-take}
 use lib.Seq.{take-suc-set}
-use borrow.Author.Tests.{eq-eqb, ne-eqb, lt-ltb, le-ltb}
+use borrow.Author.Tests.{eq-eqb, ne-eqb, le-ltb}
 use Rattle.words.specs.Bytes.{part, over, zeros}
 use Rattle.words.specs.Rules.{pick, both}
 use Rattle.words.specs.Tables.{find, lead, leadOf, insertAt, only}
-use Rattle.words.proofs.Rules.{pick-true, pick-false}
+use Rattle.words.proofs.Rules.{pick-false}
 use Rattle.words.proofs.Written.{over-at}
 use Rattle.types.specs.Sizes.{mostSize}
 use Rattle.types.specs.Outcomes.{done}
@@ -21,6 +21,7 @@ use Rattle.types.specs.declared.Answer.the-variants.{Done, Refused}
 use Rattle.types.specs.declared.Error.the-variants.{FileTooLarge}
 use Rattle.types.specs.declared.FileType.the-variants.{RegularFile}
 use Rattle.types.specs.declared.NodeRecord.{NodeRecord}
+use Rattle.types.proofs.Nodes.{no-directory}
 use Rattle.volume.specs.declared.ChunkRow.{ChunkRow}
 use Rattle.volume.specs.Volume.{Store, Volume, withAllocator, withChunks, withBytes, onNames}
 use Rattle.volume.specs.Framed.{Fits}
@@ -33,18 +34,19 @@ use Rattle.store.proofs.SizeSet.{unused}
 use Rattle.tables.proofs.NodeRows.{node-is}
 use Rattle.tables.specs.OneRow.{sized, chunk}
 use Rattle.store.specs.Content.{byteAt, bytesFrom}
-use Rattle.store.specs.Cut.{goes, cutFrom, cramped, tailZeroed, shrunk}
+use Rattle.store.specs.Cut.{goes, cutFrom, tailZeroed, shrunk}
 use Rattle.store.specs.Room.{room, missing, holes}
 use Rattle.files.specs.Boundary.{Start, row}
 use Rattle.store.specs.Written.{writeChunks, writeChunk, put, putFor, written}
 use Rattle.store.specs.Taken.{ensured, ensuredFor, taken}
 use Rattle.files.specs.Write.{write, writeFile}
 use Rattle.files.proofs.WriteKept.{wrote, write-kept}
+use Rattle.files.proofs.ResizeKept.{Accepts, resize-grows, resize-cuts}
 use Rattle.files.specs.Effects.{writtenSize}
 use Rattle.files.proofs.Reshaped.{reshaped}
 use Rattle.tables.proofs.ChangedNames.{node-here}
 use Rattle.files.specs.Read.{readCount, readFile, read}
-use Rattle.files.specs.Resize.{resizeFile, resize}
+use Rattle.files.specs.Resize.{resize}
 
 -- ---- the volume to start from, as its parts
 
@@ -107,17 +109,8 @@ module _ (n : ℕ) (r : NodeRecord) (v : Volume) (there : node n (v .names) ≡ 
   unfolding write writeFile onFile onRow pick
   writes-none offset = rw (there, file) refl
 
-  grows : (z : ℕ) → z ≤ fileLimit (r .limit) → r .size ≤ z → resize n z v ≡ becomes 0 (onNames (withNode n (sized z)) v)
-  unfolding resize resizeFile onFile onRow
-  grows z l h =
-      let i : r .node ≡ n = node-is n (v .names) r there in
-      rw (there, i) (sym (pick-false _ _ _ _ not-directory (pick-false _ _ _ _ (le-ltb _ _ l) (pick-false _ _ _ _ (le-ltb _ _ h) refl))))
-
-  shrinks : (z : ℕ) → z ≤ fileLimit (r .limit) → z < r .size → cramped n z (v .store) ≡ false → resize n z v ≡ becomes 0 (reshaped n z (shrunk n z (v .store)) v)
-  unfolding resize resizeFile onFile onRow
-  shrinks z l h e =
-      let i : r .node ≡ n = node-is n (v .names) r there in
-      rw (there, i) (sym (pick-false _ _ _ _ not-directory (pick-false _ _ _ _ (le-ltb _ _ l) (pick-true _ _ _ _ (lt-ltb _ _ h) (pick-false _ _ _ _ e refl)))))
+  resizes : (z : ℕ) → z ≤ fileLimit (r .limit) → Accepts n z v r
+  resizes z l = record { there = there; file = no-directory (r .kind) not-directory; within = l }
 
 module _ (n : ℕ) (r : NodeRecord) (v : Volume) (s : Start n r v) where
   -- what holds of the store in its parts holds of the store
@@ -140,24 +133,20 @@ module _ (n : ℕ) (r : NodeRecord) (v : Volume) (s : Start n r v) where
     full-row : node n (full .names) ≡ some (sized 16386 r)
     full-row = node-here n (sized 16386) (λ a. refl) r (v .names) (s .there)
 
-    full-frees : cramped n 16383 (full .store) ≡ false
-    unfolding cramped both only goes roundUp pick
-    full-frees = rw (eq-eqb n n refl) refl
-
     -- one row left, the other one's pointer free, and a zero where the file now ends
     abbrev less : Store
     less = withBytes (over area 16383 (0 ∷ [])) (withChunks (row n 0 0 ∷ []) (withAllocator (release 16384 (full .store .allocator)) (full .store)))
 
     cut : shrunk n 16383 (full .store) ≡ less
-    unfolding shrunk tailZeroed cutFrom released only goes roundUp pick both writeChunk put putFor ensured ensuredFor chunk find part zeros release
-    cut = rw (eq-eqb n n refl, eq-eqb n n refl, eq-eqb n n refl) refl
+    unfolding shrunk tailZeroed cutFrom released only goes roundUp pick both put putFor chunk find part zeros release
+    cut = rw (eq-eqb n n refl, eq-eqb n n refl) refl
 
     abbrev cutDown : Volume
     cutDown = reshaped n 16383 less full
 
     cuts : resize n 16383 full ≡ becomes 0 cutDown
     cuts =
-        shrinks n (sized 16386 r) full full-row (s .file) 16383 (omega (arith, limit)) (omega arith) full-frees
+        resize-cuts n 16383 full (sized 16386 r) (resizes n (sized 16386 r) full full-row (s .file) 16383 (omega (arith, limit))) (omega arith)
         ∙ ap (λ (t : Store). becomes 0 (reshaped n 16383 t full)) cut
 
     word-free : free (less .allocator) ≡ 16384 ∷ []
@@ -175,7 +164,7 @@ module _ (n : ℕ) (r : NodeRecord) (v : Volume) (s : Start n r v) where
     again-row = node-here n (sized 16386) (λ a. refl) (sized 16383 r) (cutDown .names) less-row
 
     grows-again : resize n 16386 cutDown ≡ becomes 0 again
-    grows-again = grows n (sized 16383 r) cutDown less-row (s .file) 16386 (omega (arith, limit)) (omega arith)
+    grows-again = resize-grows n 16386 cutDown (sized 16383 r) (resizes n (sized 16383 r) cutDown less-row (s .file) 16386 (omega (arith, limit))) (omega arith)
 
     zeros-again : 16383 ≤ length area → bytesFrom (again .store) n 16383 3 ≡ 0 ∷ 0 ∷ 0 ∷ []
     unfolding bytesFrom byteAt chunk find pick both release
@@ -272,17 +261,13 @@ module _ (n : ℕ) (r : NodeRecord) (v : Volume) (s : Start n r v) where
   grown-row : node n (grown .names) ≡ some (sized 40000 r)
   grown-row = node-here n (sized 40000) (λ a. refl) r (v .names) (s .there)
 
-  grown-room : cramped n 20000 (v .store) ≡ false
-  unfolding cramped both only roundUp pick chunk find
-  grown-room = parted (λ t. 1 ≤ room t → cramped n 20000 t ≡ false) (le-ltb _ 1) (omega (arith, two-left))
+  none-taken : shrunk n 20000 (v .store) .chunks ≡ []
+  unfolding shrunk tailZeroed cutFrom released only roundUp put putFor chunk find
+  none-taken = parted (λ t. shrunk n 20000 t .chunks ≡ []) refl
 
-  one-left : shrunk n 20000 (v .store) .chunks ≡ row n 1 0 ∷ []
-  unfolding shrunk tailZeroed cutFrom released only roundUp pick
-  one-left = parted (λ t. shrunk n 20000 t .chunks ≡ row n 1 0 ∷ []) (ap (λ (t : Store). t .chunks) (first n 20000 (zeros 12768) (v .store) 1 (v .store .bytes)))
-
-  -- empty file to 40,000, then 20,000: one row, index 1
-  pub p7 : (resize n 20000 (resize n 40000 v .after) .answer ≡ Done 0) × (resize n 20000 (resize n 40000 v .after) .after .store .chunks ≡ row n 1 0 ∷ [])
+  -- empty file to 40,000, then 20,000: no row
+  pub p7 : (resize n 20000 (resize n 40000 v .after) .answer ≡ Done 0) × (resize n 20000 (resize n 40000 v .after) .after .store .chunks ≡ [])
   p7 =
-      let e : resize n 40000 v ≡ becomes 0 grown = grows n r v (s .there) (s .file) 40000 (omega (arith, limit)) (omega (arith, s .empty)) in
-      let k : resize n 20000 grown ≡ becomes 0 (reshaped n 20000 (shrunk n 20000 (v .store)) grown) = shrinks n (sized 40000 r) grown grown-row (s .file) 20000 (omega (arith, limit)) (omega arith) grown-room in
-      rw (e, k) (refl, one-left)
+      let e : resize n 40000 v ≡ becomes 0 grown = resize-grows n 40000 v r (resizes n r v (s .there) (s .file) 40000 (omega (arith, limit))) (omega (arith, s .empty)) in
+      let k : resize n 20000 grown ≡ becomes 0 (reshaped n 20000 (shrunk n 20000 (v .store)) grown) = resize-cuts n 20000 grown (sized 40000 r) (resizes n (sized 40000 r) grown grown-row (s .file) 20000 (omega (arith, limit))) (omega arith) in
+      rw (e, k) (refl, none-taken)

@@ -3,35 +3,37 @@
 -- Assumes nothing.
 use mathlib.Core.Path.{_≡_, refl, sym, ap, _∙_}
 use mathlib.Core.Bool.{Bool, true, false}
-use mathlib.Core.Option.{Option, none, some}
+use mathlib.Core.Option.{some}
 use Prim.Native.Nat.{ℕ, _*_, _≤_, _<_}
 use native.Mathlib.Omega.{arith}
-use lib.Dec.{eqb, ltb}
+use lib.Dec.{ltb}
+use borrow.Author.Tests.{lt-ltb, le-ltb}
 use Rattle.words.specs.Rules.{pick, Says, holds, fails}
-use Rattle.words.proofs.Rules.{says-ltb}
+use Rattle.words.proofs.Rules.{says-ltb, false-says, pick-true, pick-false}
 use Rattle.types.specs.Nodes.{fileLimit}
 use Rattle.types.specs.Answers.{value}
 use Rattle.types.specs.declared.Answer.the-variants.{Done, Refused}
 use Rattle.types.specs.declared.Error.{Error}
-use Rattle.types.specs.declared.Error.the-variants.{FileTooLarge, NoChunkRoom}
+use Rattle.types.specs.declared.Error.the-variants.{FileTooLarge}
 use Rattle.types.specs.declared.FileType.the-variants.{Directory}
 use Rattle.types.specs.declared.NodeRecord.{NodeRecord}
-use Rattle.types.proofs.Nodes.{limit-most}
+use Rattle.types.proofs.Nodes.{says-directory}
 use Rattle.volume.specs.declared.ChunkRow.{ChunkRow}
 use Rattle.volume.specs.Volume.{Store, Volume}
 use Rattle.volume.specs.Sound.{Good, node}
 use Rattle.volume.specs.Steps.{Step, stays, becomes}
-use Rattle.volume.specs.Framed.{NodeFits, Fits}
+use Rattle.volume.specs.Files.{onRow, onFile}
+use Rattle.volume.specs.Framed.{Fits}
 use Rattle.volume.proofs.Rounding.{lt-up}
 use Rattle.tables.specs.OneRow.{sized, chunk}
 use Rattle.store.specs.Content.{byteAt}
-use Rattle.store.specs.Cut.{cramped, shrunk}
+use Rattle.store.specs.Cut.{shrunk}
 use Rattle.files.specs.Resize.{resizeFile, resize}
 use Rattle.files.specs.Effects.{Resized}
 use Rattle.store.specs.Workable.{Workable}
 use Rattle.files.specs.Posix.{fileOf, ExtensionShowsZero}
 use Rattle.store.proofs.Workable.{stored-workable}
-use Rattle.tables.proofs.NodeRows.{node-is, node-each}
+use Rattle.tables.proofs.NodeRows.{node-is}
 use Rattle.store.proofs.OwnedContent.{Reached, zero-above, owned-reached}
 use Rattle.files.proofs.Reshaped.{Reshaped, reshaped, sized-kept}
 use Rattle.tables.proofs.ChangedNames.{node-here, node-other}
@@ -48,21 +50,34 @@ pub record Accepts (n z : ℕ) (v : Volume) (r : NodeRecord) : Type 0 where
 
 -- what holds of each case holds of a resize
 pub resize-cases : (P : Step → Type 0) (n z : ℕ) (v : Volume) → ((e : Error) → P (stays e v)) → ((r : NodeRecord) → Accepts n z v r → r .size ≤ z → P (becomes 0 (reshaped n z (v .store) v)))
-    → ((r : NodeRecord) → Accepts n z v r → z < r .size → cramped n z (v .store) ≡ false → P (becomes 0 (reshaped n z (shrunk n z (v .store)) v))) → P (resize n z v)
+    → ((r : NodeRecord) → Accepts n z v r → z < r .size → P (becomes 0 (reshaped n z (shrunk n z (v .store)) v))) → P (resize n z v)
 unfolding resize resizeFile pick
 resize-cases P n z v refusal grown cut = go (resize n z v) (on-file n (v .names) (λ e. stays e v) (resizeFile z v))
   where
-    from-file : (r : NodeRecord) → node n (v .names) ≡ some r → r .node ≡ n → (r .kind ≡ Directory → ⊥) → (b : Bool) → Says (fileLimit (r .limit) < z) b → (c : Bool) → Says (z < r .size) c → (d : Bool) → cramped (r .node) z (v .store) ≡ d
-        → P (pick b (stays FileTooLarge v) (pick c (pick d (stays NoChunkRoom v) (becomes 0 (reshaped (r .node) z (shrunk (r .node) z (v .store)) v))) (becomes 0 (reshaped (r .node) z (v .store) v))))
-    from-file r e i k true p c q d s = refusal FileTooLarge
-    from-file r e i k false (fails p) true q true s = refusal NoChunkRoom
-    from-file r e i k false (fails p) true (holds q) false s = rw i (cut r (record { there = e; file = k; within = omega arith }) q (rw i at s))
-    from-file r e i k false (fails p) false (fails q) d s = rw i (grown r (record { there = e; file = k; within = omega arith }) (omega arith))
+    from-file : (r : NodeRecord) → node n (v .names) ≡ some r → r .node ≡ n → (r .kind ≡ Directory → ⊥) → (b : Bool) → Says (fileLimit (r .limit) < z) b → (c : Bool) → Says (z < r .size) c
+        → P (pick b (stays FileTooLarge v) (pick c (becomes 0 (reshaped (r .node) z (shrunk (r .node) z (v .store)) v)) (becomes 0 (reshaped (r .node) z (v .store) v))))
+    from-file r e i k true p c q = refusal FileTooLarge
+    from-file r e i k false (fails p) true (holds q) = rw i (cut r (record { there = e; file = k; within = omega arith }) q)
+    from-file r e i k false (fails p) false (fails q) = rw i (grown r (record { there = e; file = k; within = omega arith }) (omega arith))
 
     go : (s : Step) → OnFile Step n (v .names) (λ e. stays e v) (resizeFile z v) s → P s
     go s (stops e) = refusal e
     go s (goes-on r e i k) =
-        from-file r e i k (ltb (fileLimit (r .limit)) z) (says-ltb (fileLimit (r .limit)) z) (ltb z (r .size)) (says-ltb z (r .size)) (cramped (r .node) z (v .store)) refl
+        from-file r e i k (ltb (fileLimit (r .limit)) z) (says-ltb (fileLimit (r .limit)) z) (ltb z (r .size)) (says-ltb z (r .size))
+
+-- and one that passes them is accepted, whatever the store is: grown or cut
+module _ (n z : ℕ) (v : Volume) (r : NodeRecord) (a : Accepts n z v r) where
+  pub resize-grows : r .size ≤ z → resize n z v ≡ becomes 0 (reshaped n z (v .store) v)
+  unfolding resize resizeFile onFile onRow
+  resize-grows h =
+      rw (a .there, node-is n (v .names) r (a .there))
+      (sym (pick-false _ _ _ _ (false-says (says-directory (r .kind)) (a .file)) (pick-false _ _ _ _ (le-ltb _ _ (a .within)) (pick-false _ _ _ _ (le-ltb _ _ h) refl))))
+
+  pub resize-cuts : z < r .size → resize n z v ≡ becomes 0 (reshaped n z (shrunk n z (v .store)) v)
+  unfolding resize resizeFile onFile onRow
+  resize-cuts h =
+      rw (a .there, node-is n (v .names) r (a .there))
+      (sym (pick-false _ _ _ _ (false-says (says-directory (r .kind)) (a .file)) (pick-false _ _ _ _ (le-ltb _ _ (a .within)) (pick-true _ _ _ _ (lt-ltb _ _ h) refl))))
 
 -- ---- an accepted resize
 
@@ -72,9 +87,6 @@ module _ (n z : ℕ) (v : Volume) (f : Fits v) (g : Good v) (r : NodeRecord) (a 
 
   st : Workable s
   st = stored-workable s (f .store) (g .stored)
-
-  row-fits : NodeFits r
-  row-fits = node-each n (v .names) r (a .there) NodeFits (f .names .nodeRows)
 
   -- grown: size only
   same-shape : r .size ≤ z → Reshaped s s n z
@@ -94,15 +106,15 @@ module _ (n z : ℕ) (v : Volume) (f : Fits v) (g : Good v) (r : NodeRecord) (a 
           omega (arith, lt-up (s .allocator .chunkSize) (r .size) k (st .size) (i .below))
 
   -- cut
-  cut-shape : cramped n z s ≡ false → Reshaped s (shrunk n z s) n z
-  cut-shape e = record {
+  cut-shape : Reshaped s (shrunk n z s) n z
+  cut-shape = record {
     size = shrunk-size n z s;
-    workable = shrunk-stored n z s st e;
-    fits = shrunk-fits n z s st e (f .store) (rw (node-is n (v .names) r (a .there)) at (row-fits .node)) (omega (arith, limit-most (r .limit) (row-fits .limit), a .within));
-    rows = shrunk-rows n z s st e;
-    bytes = shrunk-other n z s st e;
-    below = shrunk-below n z s st e;
-    above = shrunk-high n z s st e;
+    workable = shrunk-stored n z s st;
+    fits = shrunk-fits n z s st (f .store);
+    rows = shrunk-rows n z s;
+    bytes = shrunk-other n z s st;
+    below = shrunk-below n z s (st .size);
+    above = shrunk-high n z s st;
   }
 
   shape-kept : (t : Store) → Reshaped s t n z → Fits (reshaped n z t v) × Good (reshaped n z t v)
@@ -129,19 +141,19 @@ module _ (n z : ℕ) (v : Volume) (f : Fits v) (g : Good v) (r : NodeRecord) (a 
 pub resize-kept : (n z : ℕ) (v : Volume) → Fits v → Good v → Fits (resize n z v .after) × Good (resize n z v .after)
 resize-kept n z v f g =
     resize-cases (λ s. Fits (s .after) × Good (s .after)) n z v (λ e. (f, g)) (λ r a h. shape-kept n z v f g r a (v .store) (same-shape n z v f g r a h))
-    (λ r a h e. shape-kept n z v f g r a (shrunk n z (v .store)) (cut-shape n z v f g r a e))
+    (λ r a h. shape-kept n z v f g r a (shrunk n z (v .store)) (cut-shape n z v f g r a))
 
 -- an accepted resize gives 0, and shows the file of its new size
 pub resize-shows : (n z : ℕ) (v : Volume) → Fits v → Good v → (k : ℕ) → resize n z v .answer ≡ Done k → (k ≡ 0) × Resized n z v (resize n z v .after)
 resize-shows n z v f g k =
     resize-cases (λ s. s .answer ≡ Done k → (k ≡ 0) × Resized n z v (s .after)) n z v (λ e q. let x : _≡_ {A = ℕ} 0 1 = cc in absurd (omega arith))
     (λ r a h q. (sym (ap value q), shape-shows n z v f g r a (v .store) (same-shape n z v f g r a h) (λ j b. refl)))
-    (λ r a h e q. (sym (ap value q), shape-shows n z v f g r a (shrunk n z (v .store)) (cut-shape n z v f g r a e) (shrunk-low n z (v .store) (stored-workable (v .store) (f .store) (g .stored)) e)))
+    (λ r a h q. (sym (ap value q), shape-shows n z v f g r a (shrunk n z (v .store)) (cut-shape n z v f g r a) (shrunk-low n z (v .store) (stored-workable (v .store) (f .store) (g .stored)))))
 
 -- a refusal leaves the volume as it was
 pub resize-refused : (n z : ℕ) (v : Volume) (e : Error) → resize n z v .answer ≡ Refused e → resize n z v .after ≡ v
 resize-refused n z v e =
-    resize-cases (λ s. s .answer ≡ Refused e → s .after ≡ v) n z v (λ d q. refl) (λ r a h q. let x : _≡_ {A = ℕ} 0 1 = cc in absurd (omega arith)) (λ r a h d q. let x : _≡_ {A = ℕ} 0 1 = cc in absurd (omega arith))
+    resize-cases (λ s. s .answer ≡ Refused e → s .after ≡ v) n z v (λ d q. refl) (λ r a h q. let x : _≡_ {A = ℕ} 0 1 = cc in absurd (omega arith)) (λ r a h q. let x : _≡_ {A = ℕ} 0 1 = cc in absurd (omega arith))
 
 -- ---- what POSIX.1 says of a file extended
 

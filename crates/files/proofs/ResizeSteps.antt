@@ -1,10 +1,8 @@
 -- A resize: the cut and the zeros behind it, its refusals, which leave the volume as it was, and the size that it sets.
 -- Assumes nothing.
 use mathlib.Core.Path.{_≡_, refl, sym, ap, _∙_}
-use mathlib.Core.Bool.{Bool, true, false}
 use mathlib.Core.List.{List}
-use Prim.Native.Nat.{ℕ, _/_, _^_, _≤_, _<_}
-use native.Mathlib.Omega.{arith}
+use Prim.Native.Nat.{ℕ, _/_, _≤_, _<_}
 use lib.ListN.{length, set}
 use borrow.Author.Tests.{lt-ltb, le-ltb}
 use Rattle.words.specs.Tables.{lead}
@@ -12,14 +10,12 @@ use Rattle.words.proofs.Rules.{pick-true, pick-false}
 use Rattle.types.specs.Nodes.{fileLimit}
 use Rattle.types.specs.declared.Answer.the-variants.{Done, Refused}
 use Rattle.types.specs.declared.Error.{Error}
-use Rattle.types.specs.declared.Error.the-variants.{FileTooLarge, NoChunkRoom}
+use Rattle.types.specs.declared.Error.the-variants.{FileTooLarge}
 use Rattle.types.specs.declared.NodeRecord.{NodeRecord}
-use Rattle.types.proofs.Nodes.{limit-most}
 use Rattle.volume.specs.declared.Layout.{Layout}
 use Rattle.volume.specs.Search.{chunkUnder}
 use Rattle.volume.proofs.Rounding.{div-up}
 use Rattle.store.proofs.CutRows.{cut-lead}
-use Rattle.volume.specs.Framed.{NodeFits}
 use Rattle.volume.specs.Volume.{shown, laid, withNodes, onNames, onStore}
 use Rattle.volume.specs.Sound.{roundUp, Good}
 use Rattle.volume.specs.Steps.{Step, stays, becomes, withNode}
@@ -30,22 +26,20 @@ use Rattle.files.specs.declared.files.FileRow.{FileRow}
 use Rattle.files.specs.declared.files.FileRow.the-variants as row
 use Rattle.files.specs.FileRows.{IsSpan, fileFound}
 use Rattle.tables.proofs.ReadyVolume.{store-step}
-use Rattle.store.specs.Room.{room, tailHole}
-use Rattle.store.specs.Cut.{cutFrom, cramped, tailZeroed, shrunk}
+use Rattle.store.specs.Cut.{cutFrom, tailZeroed, shrunk}
 use Rattle.files.specs.Resize.{resizeFile, resize}
 use Rattle.store.specs.Workable.{Workable}
 use Rattle.store.proofs.Workable.{stored-workable}
 use Rattle.files.proofs.FileRows.{IsFile, file-found, file-goes-on, file-refused}
-use Rattle.tables.proofs.NodeRows.{node-each}
 use Rattle.tables.proofs.ChangedRow.{row-set}
 use Rattle.files.proofs.LimitSteps.{Meets, meets}
 use Rattle.store.proofs.Cut.{cut-size, cut-stored}
 use Rattle.files.proofs.FreeSteps.{cut-step}
-use Rattle.store.proofs.Shrunk.{shrink-enough, shrunk-fits, shrunk-room}
+use Rattle.store.proofs.Shrunk.{shrunk-fits, shrunk-room}
 
 -- ---- the cut, then the zeros
 
-module _ (l : List ℕ) (y : Layout) (r : Ready l y) (g : Good (shown l)) (n z : ℕ) (most : z ≤ 1099511627776) (free : cramped n z (shown l .store) ≡ false) where
+module _ (l : List ℕ) (y : Layout) (r : Ready l y) (g : Good (shown l)) (n z : ℕ) where
   st : Workable (shown l .store)
   st = stored-workable (shown l .store) (r .formed .fits .store) (g .stored)
 
@@ -57,13 +51,11 @@ module _ (l : List ℕ) (y : Layout) (r : Ready l y) (g : Good (shown l)) (n z :
     after = cut-step l y r st n up cut
 
     -- what `zero_tail` asks: the place of the tail is as it was
-    pub zero-asked : Ready m y × Workable (shown m .store) × (z ≤ 1099511627776) × (tailHole n z (shown m .store) ≤ room (shown m .store)) × (tail ≡ lead (chunkUnder n (z / s)) (shown m .store .chunks)) × IsSpan m s
+    pub zero-asked : Ready m y × Workable (shown m .store) × (tail ≡ lead (chunkUnder n (z / s)) (shown m .store .chunks)) × IsSpan m s
     zero-asked =
         let low : z / s ≤ up = rw (size .0) (div-up (shown l .store .allocator .chunkSize) z (st .size)) in (
           after .1,
           rw (after .0) (cut-stored n up (shown l .store) st),
-          most,
-          rw (after .0) (shrink-enough n z (shown l .store) st free),
           rw (after .0) (place ∙ sym (cut-lead n up (z / s) low (shown l .store) (g .stored .order))),
           rw (after .0, cut-size n up (shown l .store)) size,
         )
@@ -74,9 +66,8 @@ module _ (l : List ℕ) (y : Layout) (r : Ready l y) (g : Good (shown l)) (n z :
 
   -- ---- behind it
 
-  module _ (number : n < 2 ^ 64) {m : List ℕ} (e : m ≡ laid (onStore (shrunk n z) (shown l))) where
-    pub shrunk-step : (shown m ≡ onStore (shrunk n z) (shown l)) × Ready m y
-    shrunk-step = store-step r (shrunk n z (shown l .store)) (shrunk-fits n z (shown l .store) st free (r .formed .fits .store) number (omega arith)) (shrunk-room n z (shown l .store)) e
+  shrunk-step : {m : List ℕ} → m ≡ laid (onStore (shrunk n z) (shown l)) → (shown m ≡ onStore (shrunk n z) (shown l)) × Ready m y
+  shrunk-step e = store-step r (shrunk n z (shown l .store)) (shrunk-fits n z (shown l .store) st (r .formed .fits .store)) (shrunk-room n z (shown l .store)) e
 
 -- ---- the ends of the call
 
@@ -95,9 +86,6 @@ module _ (n z : ℕ) (l : List ℕ) (y : Layout) (ready : Ready l y) (g : Good (
     its : IsFile n (shown l .names) f
     its = file-found n (shown l .names) k h
 
-    row-fits : NodeFits (f .row)
-    row-fits = node-each n (shown l .names) (f .row) (its .row) NodeFits (ready .formed .fits .names .nodeRows)
-
     onward : resizeFile z (shown l) (f .row) ≡ resize n z (shown l)
     unfolding resize
     onward = file-goes-on n (shown l .names) k h refuse (resizeFile z (shown l))
@@ -115,44 +103,22 @@ module _ (n z : ℕ) (l : List ℕ) (y : Layout) (ready : Ready l y) (g : Good (
       resize-above e = meets (refuse FileTooLarge) _ (sym w) (pick-true _ _ _ _ (rw (← p) (lt-ltb _ _ e)) refl ∙ onward)
 
       module _ (s : z ≤ x) where
-        resize-most : z ≤ 1099511627776
-        resize-most = omega (arith, limit-most (f .row .limit) (row-fits .limit))
-
         pub resize-grown : f .row .size ≤ z → {d : NodeRecord} → d ≡ sized z (f .row) → {o : List ℕ} → o ≡ laid (onNames (withNodes (set (shown l .names .nodes) (f .place) d)) (shown l)) → Meets (Done 0) o (resize n z (shown l))
         unfolding resizeFile
         resize-grown e d q =
             meets (becomes 0 (onNames (withNode (f .row .node) (sized z)) (shown l))) _ (rw (its .number) (row-set n (sized z) (shown l .names .nodes) (f .place) (g .named .nodeOrder) (its .found) (new-row d) (shown l) refl l refl q))
             (pick-false _ _ _ _ (rw (← p) (le-ltb _ _ s)) (pick-false _ _ _ _ (le-ltb _ _ e) refl) ∙ onward)
 
-        module _ (e : z < f .row .size) {c : Bool} (full : c ≡ cramped n z (shown l .store)) where
-          full-row : cramped (f .row .node) z (shown l .store) ≡ c
-          full-row = rw (its .number) (sym full)
+        module _ (e : z < f .row .size) {m : List ℕ} (less : m ≡ laid (onStore (shrunk n z) (shown l))) where
+          behind : (shown m ≡ onStore (shrunk n z) (shown l)) × Ready m y
+          behind = shrunk-step l y ready g n z less
 
-          pub resize-cramped : c ≡ true → Meets (Refused NoChunkRoom) l (resize n z (shown l))
+          -- what `change_node` asks
+          pub size-asked : Ready m y × (f .place < length (shown m .names .nodes))
+          size-asked = (behind .1, rw (behind .0) (its .place))
+
+          pub resize-shrunk : {d : NodeRecord} → d ≡ sized z (f .row) → {o : List ℕ} → o ≡ laid (onNames (withNodes (set (shown m .names .nodes) (f .place) d)) (shown m)) → Meets (Done 0) o (resize n z (shown l))
           unfolding resizeFile
-          resize-cramped t =
-              meets (refuse NoChunkRoom) _ (sym w)
-              (pick-false _ _ _ _ (rw (← p) (le-ltb _ _ s)) (pick-true _ _ _ _ (lt-ltb _ _ e) (pick-true _ _ _ _ (full-row ∙ t) refl)) ∙ onward)
-
-          module _ (t : c ≡ false) where
-            -- what `resize_file_internal` asks
-            pub shrink-asked : {span tail : ℕ} → IsSpan l span → tail ≡ lead (chunkUnder n (z / span)) (shown l .store .chunks)
-                → Ready l y × Good (shown l) × (z ≤ 1099511627776) × (cramped n z (shown l .store) ≡ false) × (tail ≡ lead (chunkUnder n (z / span)) (shown l .store .chunks)) × IsSpan l span
-            shrink-asked es et = (ready, g, resize-most, sym full ∙ t, et, es)
-
-            node-small : n < 2 ^ 64
-            node-small = rw (its .number) at (row-fits .node)
-
-            module _ {m : List ℕ} (less : m ≡ laid (onStore (shrunk n z) (shown l))) where
-              behind : (shown m ≡ onStore (shrunk n z) (shown l)) × Ready m y
-              behind = shrunk-step l y ready g n z resize-most (sym full ∙ t) node-small less
-
-              -- what `change_node` asks
-              pub size-asked : Ready m y × (f .place < length (shown m .names .nodes))
-              size-asked = (behind .1, rw (behind .0) (its .place))
-
-              pub resize-shrunk : {d : NodeRecord} → d ≡ sized z (f .row) → {o : List ℕ} → o ≡ laid (onNames (withNodes (set (shown m .names .nodes) (f .place) d)) (shown m)) → Meets (Done 0) o (resize n z (shown l))
-              unfolding resizeFile
-              resize-shrunk d a =
-                  meets (becomes 0 (onNames (withNode (f .row .node) (sized z)) (onStore (shrunk (f .row .node) z) (shown l)))) _ (rw (its .number) (row-set n (sized z) (shown l .names .nodes) (f .place) (g .named .nodeOrder) (its .found) (new-row d) (onStore (shrunk n z) (shown l)) refl m (behind .0) a))
-                  (pick-false _ _ _ _ (rw (← p) (le-ltb _ _ s)) (pick-true _ _ _ _ (lt-ltb _ _ e) (pick-false _ _ _ _ (full-row ∙ t) refl)) ∙ onward)
+          resize-shrunk d a =
+              meets (becomes 0 (onNames (withNode (f .row .node) (sized z)) (onStore (shrunk (f .row .node) z) (shown l)))) _ (rw (its .number) (row-set n (sized z) (shown l .names .nodes) (f .place) (g .named .nodeOrder) (its .found) (new-row d) (onStore (shrunk n z) (shown l)) refl m (behind .0) a))
+              (pick-false _ _ _ _ (rw (← p) (le-ltb _ _ s)) (pick-true _ _ _ _ (lt-ltb _ _ e) refl) ∙ onward)

@@ -3,5 +3,6 @@ pub mod Reported
 pub mod Door
 pub mod Kept
 pub mod Refusal
+pub mod Shortening
 pub mod NewVolume
 pub mod EntryGiven

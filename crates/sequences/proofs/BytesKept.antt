@@ -1,11 +1,9 @@
 -- Every call keeps a volume of bytes one: what it writes are bytes that it was lent, names that it was lent, and zeros.
 -- Assumes nothing.
-use mathlib.Core.Bool.{Bool, true, false}
 use mathlib.Core.List.{List}
 use mathlib.Core.Option.{Option, none, some}
 use Prim.Native.Nat.{ℕ, zero, suc}
 use Rattle.words.specs.Bytes.{zeros, Bytes}
-use Rattle.words.specs.Rules.{pick}
 use Rattle.words.specs.Tables.{Each}
 use Rattle.words.proofs.Order.{each-insert}
 use Rattle.words.proofs.Only.{each-only}
@@ -76,20 +74,9 @@ cut-bytes : (n c : ℕ) (s : Store) → Bytes (s .bytes) → Bytes (cutFrom n c 
 unfolding cutFrom
 cut-bytes n c s h = h
 
--- of two stores either
-either-bytes : (t : Bool) (x y : Store) → Bytes (x .bytes) → Bytes (y .bytes) → Bytes (pick t x y .bytes)
-unfolding pick
-either-bytes true x y h k = h
-either-bytes false x y h k = k
-
--- zeros are written behind a new end that lies inside a chunk
-tail-bytes : (n z : ℕ) (s : Store) → Bytes (s .bytes) → Bytes (tailZeroed n z s .bytes)
-unfolding tailZeroed
-tail-bytes n z s h = either-bytes _ s _ h (chunk-bytes n z _ (bytes-zeros _) _ s h)
-
 shrunk-bytes : (n z : ℕ) (s : Store) → Bytes (s .bytes) → Bytes (shrunk n z s .bytes)
-unfolding shrunk
-shrunk-bytes n z s h = tail-bytes n z (cutFrom n _ s) (cut-bytes n _ s h)
+unfolding shrunk tailZeroed
+shrunk-bytes n z s h = put-bytes n z _ (bytes-zeros _) _ (cutFrom n _ s) (cut-bytes n _ s h)
 
 -- ---- the names
 
@@ -109,7 +96,7 @@ limit-raw n m v g h = limit-cases (λ s. RawBytes (s .after)) n m v (λ e. h) (�
 
 pub resize-raw : (n z : ℕ) (v : Volume) → Good v → RawBytes v → RawBytes (Resize.resize n z v .after)
 resize-raw n z v g h =
-    resize-cases (λ s. RawBytes (s .after)) n z v (λ e. h) (λ r a e. record { names = h .names; area = h .area }) (λ r a e c. record { names = h .names; area = shrunk-bytes n z (v .store) (h .area) })
+    resize-cases (λ s. RawBytes (s .after)) n z v (λ e. h) (λ r a e. record { names = h .names; area = h .area }) (λ r a e. record { names = h .names; area = shrunk-bytes n z (v .store) (h .area) })
 
 pub write-raw : (n offset : ℕ) (bs : List ℕ) → Bytes bs → (v : Volume) → Good v → RawBytes v → RawBytes (Write.write n offset bs v .after)
 write-raw n offset bs b v g h = write-cases (λ s. RawBytes (s .after)) n offset bs v (λ e. h) (λ e. h) (λ r a. record { names = h .names; area = written-bytes n offset bs b (v .store) (h .area) })

@@ -4,10 +4,9 @@ use mathlib.Core.Path.{_≡_, refl, _∙_}
 use mathlib.Core.Bool.{Bool, true, false}
 use mathlib.Core.List.{List}
 use mathlib.Core.Option.{Option, none, some}
-use Prim.Native.Nat.{ℕ, zero, suc, _-_, _≤_, _<_, _%_, _/_}
+use Prim.Native.Nat.{ℕ, zero, suc, _≤_, _<_}
 use native.Mathlib.Omega.{arith}
 use lib.Dec.{eqb}
-use Rattle.words.specs.Bytes.{zeros}
 use Rattle.words.specs.Rules.{pick}
 use Rattle.types.specs.declared.Limit.{Limit}
 use Rattle.allocator.specs.Allocator.{Allocator, allocate, grown, reused}
@@ -83,17 +82,9 @@ later-cut : (n c : ℕ) (s : Store) → Later s (cutFrom n c s)
 unfolding cutFrom
 later-cut n c s = let f = freed-all _ (s .allocator) in record { size = λ h. f .size; next = omega (arith, f .next) }
 
-later-tail : (n z : ℕ) (s : Store) → Later s (tailZeroed n z s)
-unfolding tailZeroed pick
-later-tail n z s = go (eqb (z % s .allocator .chunkSize) 0)
-  where
-    go : (t : Bool) → Later s (pick t s (writeChunk n z (zeros (s .allocator .chunkSize - z % s .allocator .chunkSize)) (z / s .allocator .chunkSize) s))
-    go true = later-same s
-    go false = later-chunk n z _ _ s
-
 later-shrunk : (n z : ℕ) (s : Store) → Later s (shrunk n z s)
-unfolding shrunk
-later-shrunk n z s = later-twice (later-cut n (roundUp (s .allocator .chunkSize) z) s) (later-tail n z (cutFrom n (roundUp (s .allocator .chunkSize) z) s))
+unfolding shrunk tailZeroed
+later-shrunk n z s = later-twice (later-cut n (roundUp (s .allocator .chunkSize) z) s) (later-put n z _ _ (cutFrom n (roundUp (s .allocator .chunkSize) z) s))
 
 -- ---- the calls
 
@@ -104,7 +95,7 @@ pub write-later : (n offset : ℕ) (bs : List ℕ) (v : Volume) → LaterAfter v
 write-later n offset bs v = write-cases (LaterAfter v) n offset bs v (λ e. later-same (v .store)) (λ e. later-same (v .store)) (λ r a. later-written n offset bs (v .store))
 
 pub resize-later : (n z : ℕ) (v : Volume) → LaterAfter v (resize n z v)
-resize-later n z v = resize-cases (LaterAfter v) n z v (λ e. later-same (v .store)) (λ r a h. later-same (v .store)) (λ r a h c. later-shrunk n z (v .store))
+resize-later n z v = resize-cases (LaterAfter v) n z v (λ e. later-same (v .store)) (λ r a h. later-same (v .store)) (λ r a h. later-shrunk n z (v .store))
 
 pub limit-later : (n : ℕ) (m : Limit) (v : Volume) → LaterAfter v (setLimit n m v)
 limit-later n m v = limit-cases (LaterAfter v) n m v (λ e. later-same (v .store)) (λ r t file most size. later-same (v .store))

@@ -154,7 +154,7 @@ write-fine n offset bs v = of-row FineStep (λ e q. q) _ (λ r. of-pick FineStep
 
 resize-fine : (n z : ℕ) (v : Volume) → FineStep (Resize.resize n z v)
 unfolding Resize.resize Resize.resizeFile onFile
-resize-fine n z v = of-row FineStep (λ e q. q) _ (λ r. of-pick FineStep _ refl (of-pick FineStep _ (of-pick FineStep _ refl refl) refl))
+resize-fine n z v = of-row FineStep (λ e q. q) _ (λ r. of-pick FineStep _ refl (of-pick FineStep _ refl refl))
 
 limit-fine : (n : ℕ) (m : Limit) (v : Volume) → FineStep (Limits.setLimit n m v)
 unfolding Limits.setLimit Limits.limitFile onFile

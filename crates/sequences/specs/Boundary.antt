@@ -85,8 +85,8 @@ boundaryTable n three one start =
     ∷ record { before = []; call = write n (2 ^ 40) one; comes = refusedWith 5 ∷ [] }
     -- P6: at 2^40 - 1: index 67,108,863
     ∷ record { before = []; call = write n 1099511627775 one; comes = answered 1 ∷ rowsAre (row n 67108863 0 ∷ []) ∷ [] }
-    -- P7: empty file to 40,000, then 20,000: one row, index 1
-    ∷ record { before = resize n 40000 ∷ []; call = resize n 20000; comes = answered 0 ∷ rowsAre (row n 1 0 ∷ []) ∷ [] }
+    -- P7: empty file to 40,000, then 20,000: no row
+    ∷ record { before = resize n 40000 ∷ []; call = resize n 20000; comes = answered 0 ∷ rowsAre [] ∷ [] }
     -- P8: `a/../..`: 8
     ∷ record { before = []; call = findNode start path8; comes = refusedWith 8 ∷ [] }
     -- P9: `a/../b`: only `b` is looked up

@@ -24,10 +24,9 @@ use Rattle.tables.specs.OneRow.{isChunk, chunk}
 use Rattle.tables.proofs.ChunkCursor.{says-chunk}
 use Rattle.tables.proofs.StoredRows.{live, stored-accounted}
 use Rattle.store.specs.Content.{byteAt}
-use Rattle.store.specs.Room.{room}
 use Rattle.store.specs.Cut.{goes, cutFrom}
 use Rattle.store.specs.Workable.{Workable}
-use Rattle.words.proofs.Only.{rest, each-only, asc-only, find-only, find-gone, length-both, count-both, none-pass}
+use Rattle.words.proofs.Only.{rest, each-only, asc-only, find-only, find-gone, length-both, count-both}
 use Rattle.allocator.proofs.Released.{released-accounts, all-fit, Freed, freed-all}
 
 -- ---- pointers freed
@@ -84,11 +83,6 @@ module _ (n c : ℕ) where
     pub cut-size : cutFrom n c v .allocator .chunkSize ≡ v .allocator .chunkSize
     cut-size = cut-allocator .size
 
-    -- where no row goes, everything
-    pub cut-none : length going ≡ 0 → cutFrom n c v ≡ v
-    unfolding cutFrom released
-    cut-none h = rw (none-pass (goes n c) (v .chunks) h .0, none-pass (goes n c) (v .chunks) h .1)
-
     -- ---- the chunks of each file
 
     pub cut-other : (m i : ℕ) → (m ≡ n → ⊥) → chunk m i (cutFrom n c v .chunks) ≡ chunk m i (v .chunks)
@@ -144,11 +138,6 @@ module _ (n c : ℕ) where
         words = cut-allocator .words ∙ s .words;
         frees = omega (arith, cut-allocator .count, freed-fit);
       }
-
-      -- where a row goes, there is room for one
-      pub cut-room : 0 < length going → 1 ≤ room (cutFrom n c v)
-      unfolding room cutFrom
-      cut-room h = omega (arith, cut-allocator .count, length-freed, length-both (goes n c) (v .chunks), s .rows)
 
       pub cut-fits : StoreFits v → StoreFits (cutFrom n c v)
       unfolding cutFrom

@@ -1,22 +1,21 @@
 -- In the chunk table the rows of one file from an index on are one run: where it starts, and how long it is.
 -- Assumes nothing.
-use mathlib.Core.Path.{_≡_, ap, _∙_}
+use mathlib.Core.Path.{_≡_}
 use mathlib.Core.Bool.{Bool, true, false, not}
 use mathlib.Core.Logic.{inl, inr}
 use mathlib.Core.List.{List, _++_}
-use Prim.Native.Nat.{ℕ, _+_, _-_, _≤_, _<_}
+use Prim.Native.Nat.{ℕ, _+_, _≤_, _<_}
 use native.Mathlib.Omega.{arith}
 use native.Mathlib.Decide.{decLt}
 use lib.Dec.{eqb}
-use lib.ListN.{length, take, drop, length-drop}
-use lib.Seq.{length-take-le}
+use lib.ListN.{take, drop}
 use borrow.Author.Tests.{ne-eqb, eqb-false}
 use Rattle.words.proofs.Runs.{Past, Run, run, lead-only}
 use Rattle.words.specs.Tables.{lead, Asc, only}
 use Rattle.words.specs.Rules.{Says, holds, fails}
 use Rattle.words.proofs.Rules.{says-true, true-says, says-false, false-says, says-eqb}
 use Rattle.words.proofs.Order.{asc-map}
-use Rattle.words.proofs.Search.{lead-le, asc-falls}
+use Rattle.words.proofs.Search.{asc-falls}
 use Rattle.volume.specs.declared.ChunkRow.{ChunkRow}
 use Rattle.volume.specs.Search.{chunkUnder, PairBefore}
 use Rattle.volume.specs.Sound.{chunkBefore}
@@ -80,14 +79,3 @@ module _ (n c : ℕ) where
 
     pub run-stays : only (λ r. not (goes n c r)) cs ≡ take p cs ++ drop (p + k) cs
     run-stays = chunk-run .1
-
-    -- the run lies in the table
-    pub run-ends : p + k ≤ length cs
-    run-ends =
-        let a : k ≤ length (drop p cs) = rw many (lead-le (ofNode n) (drop p cs)) in
-        let b : p ≤ length cs = rw place (lead-le (chunkUnder n c) cs) in
-        omega (arith, length-drop p cs)
-
-    -- and has as many rows as go
-    pub run-length : length (only (goes n c) cs) ≡ k
-    run-length = ap length run-goes ∙ length-take-le k (drop p cs) (omega (arith, run-ends, length-drop p cs))

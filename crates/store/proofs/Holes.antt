@@ -20,7 +20,7 @@ use Rattle.tables.specs.OneRow.{isChunk, chunk}
 use Rattle.store.specs.Room.{hole, missing}
 use Rattle.tables.proofs.ChunkCursor.{row-yes, row-no}
 
-pub hole-most : (o : Option ChunkRow) → hole o ≤ 1
+hole-most : (o : Option ChunkRow) → hole o ≤ 1
 hole-most none = omega arith
 hole-most (some c) = omega arith
 

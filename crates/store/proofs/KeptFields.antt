@@ -29,7 +29,7 @@ pub record Kept (v w : Store) : Type 0 where
   pub chunkRoom : w .chunkRoom ≡ v .chunkRoom
   pub rest : Rest (v .allocator) (w .allocator)
 
-pub kept-same : (v : Store) → Kept v v
+kept-same : (v : Store) → Kept v v
 kept-same v = record { chunkRoom = refl; rest = record { mark = refl; size = refl; unread = refl; words = refl } }
 
 pub kept-twice : {u v w : Store} → Kept u v → Kept v w → Kept u w

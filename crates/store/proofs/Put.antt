@@ -1,9 +1,9 @@
 -- What a write into chunks of a file does to a store, as one record; and that the piece of bytes that falls into a chunk, put there, does
 -- it. Over any chunk size.
 -- Assumes nothing.
-use mathlib.Core.Path.{_≡_, sym, ap, _∙_}
+use mathlib.Core.Path.{_≡_, refl, sym, ap, _∙_}
 use mathlib.Core.List.{List}
-use mathlib.Core.Option.{some}
+use mathlib.Core.Option.{Option, none, some}
 use Prim.Native.Nat.{ℕ, _+_, _-_, _*_, _/_, _%_, _^_, _≤_, _<_}
 use native.Mathlib.Decide.{decLt}
 use native.Mathlib.Omega.{arith}
@@ -44,6 +44,22 @@ pub record Writes (s n offset : ℕ) (bs : List ℕ) (k c : ℕ) (v w : Store) :
   -- the bytes written, and all others as they were
   pub inside : (j : ℕ) → k ≤ j / s → j / s < k + c → offset ≤ j → j < offset + length bs → byteAt w n j ≡ getD bs (j - offset) 0
   pub outside : (m j : ℕ) → (n ≡ m → k ≤ j / s → j / s < k + c → offset ≤ j → j < offset + length bs → ⊥) → byteAt w m j ≡ byteAt v m j
+
+-- ---- where there is a row, and where there is none
+
+module _ (n offset : ℕ) (bs : List ℕ) (k : ℕ) (v : Store) where
+  -- nothing is put into a hole
+  pub put-cases : (P : Store → Type 0) → (chunk n k (v .chunks) ≡ none → P v) → ((c : ChunkRow) → chunk n k (v .chunks) ≡ some c → P (put n offset bs k v)) → P (put n offset bs k v)
+  unfolding put putFor
+  put-cases P gap there = go (chunk n k (v .chunks)) refl gap there
+    where
+      go : (o : Option ChunkRow) → chunk n k (v .chunks) ≡ o → (o ≡ none → P v) → ((c : ChunkRow) → o ≡ some c → P (putFor o offset bs k v)) → P (putFor o offset bs k v)
+      go none e gap there = gap refl
+      go (some c) e gap there = there c refl
+
+  -- the rows stay
+  pub put-rows : put n offset bs k v .chunks ≡ v .chunks
+  put-rows = put-cases (λ w. w .chunks ≡ v .chunks) (λ e. refl) (λ c e. unfold put putFor in rw e)
 
 -- byte j of a file, in the chunk area and in the bytes that are written, by the piece that starts at byte low of it
 piece-place : (pointer rest base offset low j : ℕ) → rest ≡ j - base → base ≤ low → offset ≤ low → low ≤ j → (pointer + rest ≡ pointer + (low - base) + (j - low)) × (low - offset + (j - low) ≡ j - offset)
@@ -108,6 +124,9 @@ module _ (v : Store) (st : Workable v) (n offset : ℕ) (bs : List ℕ) (k : ℕ
 
   -- ---- all it does
 
+  pub put-fits : StoreFits v → StoreFits (put n offset bs k v)
+  put-fits f = rw put-is (fits-bytes v f (over (v .bytes) at piece) long)
+
   pub put-writes : Writes S n offset bs k 1 v (put n offset bs k v)
   unfolding missing room
   put-writes = record {
@@ -120,7 +139,7 @@ module _ (v : Store) (st : Workable v) (n offset : ℕ) (bs : List ℕ) (k : ℕ
           words = st .words;
           frees = st .frees;
         });
-    fits = λ f node index. rw put-is (fits-bytes v f (over (v .bytes) at piece) long);
+    fits = λ f node index. put-fits f;
     space = rw (put-is, found, long) (omega arith);
     place = let z : hole (chunk n k (v .chunks)) ≡ 0 = ap hole found in rw put-is (omega (arith, hole-lead n (v .chunks) (st .stored .order) k));
     rows = λ m i h. rw put-is;

@@ -20,7 +20,7 @@ use Rattle.tables.specs.Tables.{chunkAt}
 use Rattle.tables.specs.OneRow.{isChunk, chunk}
 use Rattle.store.specs.Room.{room, hole}
 use Rattle.store.specs.Taken.{taken, ensured, ensuredFor}
-use Rattle.store.specs.Written.{lowOf, highOf, pieceOf, writeChunk}
+use Rattle.store.specs.Written.{lowOf, highOf, pieceOf, put, writeChunk}
 use Rattle.store.specs.Workable.{Workable}
 use Rattle.tables.proofs.ChunkCursor.{row-yes, row-no}
 use Rattle.store.proofs.KeptFields.{kept-taken}
@@ -39,14 +39,17 @@ lent-piece s offset bs k {start} {count} e f =
 module _ (v : Store) (st : Workable v) (n offset : ℕ) (bs : List ℕ) (k : ℕ) (t : Touched (v .allocator .chunkSize) offset (length bs) k) {from : ℕ} {piece : List ℕ}
     (at : from ≡ lowOf (v .allocator .chunkSize) offset k - k * v .allocator .chunkSize) (e : piece ≡ pieceOf (v .allocator .chunkSize) offset bs k) where
   -- there is a row
-  pub put-here : (c : ChunkRow) → chunk n k (v .chunks) ≡ some c → withBytes (over (v .bytes) (c .pointer + from) piece) v ≡ writeChunk n offset bs k v
+  pub put-here : (c : ChunkRow) → chunk n k (v .chunks) ≡ some c → withBytes (over (v .bytes) (c .pointer + from) piece) v ≡ put n offset bs k v
+  put-here c found = rw (put-is v st n offset bs k t c found, at, e)
+
+  write-here : (c : ChunkRow) → chunk n k (v .chunks) ≡ some c → withBytes (over (v .bytes) (c .pointer + from) piece) v ≡ writeChunk n offset bs k v
   unfolding writeChunk ensured ensuredFor
-  put-here c found = rw (found, put-is v st n offset bs k t c found, at, e)
+  write-here c found = rw found (put-here c found)
 
   -- there is none
-  pub put-taken : 1 ≤ room v → chunk n k (v .chunks) ≡ none → withBytes (over (taken n k v .bytes) (allocate (v .allocator) .pointer + from) piece) (taken n k v) ≡ writeChunk n offset bs k v
+  write-taken : 1 ≤ room v → chunk n k (v .chunks) ≡ none → withBytes (over (taken n k v .bytes) (allocate (v .allocator) .pointer + from) piece) (taken n k v) ≡ writeChunk n offset bs k v
   unfolding writeChunk ensured ensuredFor
-  put-taken one gone =
+  write-taken one gone =
       let z = kept-taken n k v .rest .size in
       let u : Touched (taken n k v .allocator .chunkSize) offset (length bs) k = rw z t in
       rw (gone, put-is (taken n k v) (taken-stored v st one n k gone) n offset bs k u (newRow n k v) (taken-here v st one n k gone), z, at, e)
@@ -82,7 +85,7 @@ module _ (v : Store) (st : Workable v) (n offset : ℕ) (bs : List ℕ) (k row :
       its-inside = row-inside-found v st n k c found
 
       pub piece-written : withBytes (over (v .bytes) (c .pointer + from) lent) v ≡ writeChunk n offset bs k v
-      piece-written = put-here v st n offset bs k t (cut-there .0) (lent-piece S offset bs k (cut-there .1) (cut-there .2)) c found
+      piece-written = write-here v st n offset bs k t (cut-there .0) (lent-piece S offset bs k (cut-there .1) (cut-there .2)) c found
 
     -- there is none
     module _ (e : b ≡ false) where
@@ -94,4 +97,4 @@ module _ (v : Store) (st : Workable v) (n offset : ℕ) (bs : List ℕ) (k row :
         room-there = rw row-missing at enough
 
         pub chunk-written : withBytes (over (taken n k v .bytes) (allocate (v .allocator) .pointer + from) lent) (taken n k v) ≡ writeChunk n offset bs k v
-        chunk-written = put-taken v st n offset bs k t (cut-there .0) (lent-piece S offset bs k (cut-there .1) (cut-there .2)) room-there row-missing
+        chunk-written = write-taken v st n offset bs k t (cut-there .0) (lent-piece S offset bs k (cut-there .1) (cut-there .2)) room-there row-missing

@@ -45,7 +45,7 @@ module _ (v : Store) (st : Workable v) (n offset : ℕ) (bs : List ℕ) (k : ℕ
         outside = λ m j h. b .outside m j h ∙ taken-byte v st one n k e m j;
       }
 
-  pub writeChunk-writes : Writes S n offset bs k 1 v (writeChunk n offset bs k v)
+  writeChunk-writes : Writes S n offset bs k 1 v (writeChunk n offset bs k v)
   unfolding writeChunk
   writeChunk-writes = ensured-cases n k v (λ u. Writes S n offset bs k 1 v (put n offset bs k u)) taken-writes (put-writes v st n offset bs k t)
 
@@ -56,7 +56,7 @@ unfolding missing
 missing-same n zero k cs ds h = refl
 missing-same n (suc c) k cs ds h = rw (h k (omega arith), missing-same n c (suc k) cs ds (λ i a. h i (omega arith)))
 
-pub writes-none : {s n offset : ℕ} {bs : List ℕ} {k : ℕ} (v : Store) → Workable v → Writes s n offset bs k 0 v v
+writes-none : {s n offset : ℕ} {bs : List ℕ} {k : ℕ} (v : Store) → Workable v → Writes s n offset bs k 0 v v
 unfolding missing
 writes-none {k = k} v st =
     record { stored = st; fits = λ f h i. f; space = omega arith; place = rw (add-zero k) (omega arith); rows = λ m i h. refl; inside = λ j x y. absurd (omega arith); outside = λ m j h. refl }

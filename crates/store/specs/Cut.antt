@@ -1,19 +1,17 @@
--- Believed: a file's chunks freed from an index on, and zeros behind its new end. Over any chunk size.
+-- Believed: a file's chunks freed from an index on, and zeros behind its new end; a hole there stays a hole. Over any chunk size.
 -- Assumes nothing.
 use Prim.Native.Nat.{ℕ, _-_, _/_, _%_}
 use mathlib.Core.Bool.{Bool, not}
 use mathlib.Core.List.{map}
-use lib.Dec.{eqb, leb, ltb}
-use lib.ListN.{length}
+use lib.Dec.{eqb, leb}
 use Rattle.words.specs.Bytes.{zeros}
-use Rattle.words.specs.Rules.{pick, both}
+use Rattle.words.specs.Rules.{both}
 use Rattle.words.specs.Tables.{only}
 use Rattle.allocator.specs.Allocator.{released}
 use Rattle.volume.specs.declared.ChunkRow.{ChunkRow}
 use Rattle.volume.specs.Volume.{Store, withAllocator, withChunks}
 use Rattle.volume.specs.Sound.{roundUp}
-use Rattle.store.specs.Room.{room, tailHole}
-use Rattle.store.specs.Written.{writeChunk}
+use Rattle.store.specs.Written.{put}
 
 -- chunk c of node n, or a later one of it
 unfoldable pub goes : ℕ → ℕ → ChunkRow → Bool
@@ -24,15 +22,10 @@ unfoldable pub cutFrom : ℕ → ℕ → Store → Store
 cutFrom n c v =
     withChunks (only (λ r. not (goes n c r)) (v .chunks)) (withAllocator (released (map (λ r. r .pointer) (only (goes n c) (v .chunks))) (v .allocator)) v)
 
--- a cut to byte z frees no chunk, needs one, and there is no room for it
-unfoldable pub cramped : ℕ → ℕ → Store → Bool
-cramped n z v =
-    both (eqb (length (only (goes n (roundUp (v .allocator .chunkSize) z)) (v .chunks))) 0)
-    (ltb (room v) (tailHole n z v))
-
--- zeros from byte z of node n to the end of its chunk
+-- zeros from byte z of node n to the end of its chunk, if that has a row
 unfoldable pub tailZeroed : ℕ → ℕ → Store → Store
-tailZeroed n z v = pick (eqb (z % v .allocator .chunkSize) 0) v (writeChunk n z (zeros (v .allocator .chunkSize - z % v .allocator .chunkSize)) (z / v .allocator .chunkSize) v)
+tailZeroed n z v = put n z (zeros (v .allocator .chunkSize - z % v .allocator .chunkSize)) (z / v .allocator .chunkSize) v
 
+-- node n cut to z bytes. Where z is a multiple of the chunk size, no row is left to be zeroed
 unfoldable pub shrunk : ℕ → ℕ → Store → Store
 shrunk n z v = tailZeroed n z (cutFrom n (roundUp (v .allocator .chunkSize) z) v)

@@ -1,11 +1,9 @@
--- Believed: room for new chunks, and how many of them a call needs. Over any chunk size.
+-- Believed: room for new chunks, and how many of them a write needs. Over any chunk size.
 -- Assumes nothing.
-use Prim.Native.Nat.{ℕ, zero, suc, _+_, _-_, _/_, _%_, min}
+use Prim.Native.Nat.{ℕ, zero, suc, _+_, _-_, _/_, min}
 use mathlib.Core.List.{List}
 use mathlib.Core.Option.{Option, none, some}
-use lib.Dec.{eqb}
 use lib.ListN.{length}
-use Rattle.words.specs.Rules.{pick}
 use Rattle.volume.specs.declared.ChunkRow.{ChunkRow}
 use Rattle.volume.specs.Volume.{Store}
 use Rattle.tables.specs.OneRow.{chunk}
@@ -33,7 +31,3 @@ numOf s offset len = suc ((offset + len - 1) / s) - offset / s
 -- touched indexes without a row
 unfoldable pub holes : ℕ → ℕ → ℕ → Store → ℕ
 holes n offset len v = missing n (numOf (v .allocator .chunkSize) offset len) (firstOf (v .allocator .chunkSize) offset) (v .chunks)
-
--- a cut to byte z needs a chunk where that byte lies inside one that has no row
-abbrev pub tailHole : ℕ → ℕ → Store → ℕ
-tailHole n z v = pick (eqb (z % v .allocator .chunkSize) 0) 0 (hole (chunk n (z / v .allocator .chunkSize) (v .chunks)))

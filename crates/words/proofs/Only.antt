@@ -1,6 +1,6 @@
 -- Laws of `only`: what the rows that pass a test, and those that do not, keep of all the rows.
 -- Assumes nothing.
-use mathlib.Core.Path.{_≡_, refl, sym, ap, _∙_}
+use mathlib.Core.Path.{_≡_, refl, sym, _∙_}
 use mathlib.Core.Bool.{Bool, true, false, not, true≢false}
 use mathlib.Core.List.{List, [], _∷_, map}
 use mathlib.Core.Option.{none, some}
@@ -80,14 +80,3 @@ module _ {R : Type 0} where
           → count p (map f (pick b (s ∷ only g rs) (only g rs))) + count p (map f (pick (not b) (s ∷ rest g rs) (rest g rs))) ≡ count p (f s ∷ map f rs)
       go true ih = omega (arith, count-cons p (f s) (map f (only g rs)), count-cons p (f s) (map f rs))
       go false ih = omega (arith, count-cons p (f s) (map f (rest g rs)), count-cons p (f s) (map f rs))
-
-  -- where none passes, all the rows fail
-  pub none-pass : (g : R → Bool) (rs : List R) → length (only g rs) ≡ 0 → (only g rs ≡ []) × (rest g rs ≡ rs)
-  unfolding only pick
-  none-pass g [] h = (refl, refl)
-  none-pass g (s ∷ rs) h = go (g s) h (none-pass g rs)
-    where
-      go : (b : Bool) → length (pick b (s ∷ only g rs) (only g rs)) ≡ 0 → (length (only g rs) ≡ 0 → (only g rs ≡ []) × (rest g rs ≡ rs))
-          → (pick b (s ∷ only g rs) (only g rs) ≡ []) × (pick (not b) (s ∷ rest g rs) (rest g rs) ≡ s ∷ rs)
-      go true e ih = absurd (omega arith)
-      go false e ih = (ih e .0, ap (λ (l : List R). s ∷ l) (ih e .1))

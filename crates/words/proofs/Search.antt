@@ -1,17 +1,15 @@
 -- Laws of `lead`: a search row by row, and one that halves.
 -- Assumes nothing.
 use mathlib.Core.Path.{_≡_, refl, sym, ap, _∙_}
-use mathlib.Core.Bool.{Bool, true, false, not, false≢true}
+use mathlib.Core.Bool.{Bool, true, false, false≢true}
 use mathlib.Core.List.{List, [], _∷_}
 use Prim.Native.Nat.{ℕ, zero, suc, _+_, _-_, _*_, _/_, _≤_, _<_}
 use native.Mathlib.Nat.{zero-add, not-suc-le-zero, le-of-suc-le-suc}
 use native.Mathlib.Numerals.{add-one, one-add}
 use native.Mathlib.Omega.{arith}
 use mathlib.Core.Option.{none, some}
-use lib.Dec.{eqb}
 use lib.ListN.{length, drop, getD, drop-of-length-le}
 use lib.Seq.{drop-cons}
-use borrow.Author.Tests.{ne-eqb}
 use Rattle.words.specs.Bytes.{part}
 use Rattle.words.specs.Rules.{pick}
 use Rattle.words.specs.Tables.{Asc, Each, find, insertAt, lead, leadOf, table}
@@ -159,14 +157,6 @@ module _ {R : Type 0} (f : R → Bool) (d : R) (rs : List R) (i : ℕ) (h : i < 
   pub from-stop : f (getD rs i d) ≡ false → lead f (drop i rs) ≡ 0
   unfolding lead leadOf
   from-stop e = rw (drop-cons rs i d h, e)
-
-  -- a row passes where any lead from it on
-  pub from-some : f (getD rs i d) ≡ not (eqb (lead f (drop i rs)) 0)
-  from-some = go (f (getD rs i d)) refl
-    where
-      go : (b : Bool) → f (getD rs i d) ≡ b → b ≡ not (eqb (lead f (drop i rs)) 0)
-      go true e = rw (ne-eqb (lead f (drop i rs)) 0 (λ q. omega (arith, from-more e)))
-      go false e = rw (from-stop e)
 
 -- ---- two tests, of which the second lets at most one row more pass
 

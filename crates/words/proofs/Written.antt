@@ -51,12 +51,6 @@ length-lent l at n h =
 
 -- ---- zeros
 
-pub zeros-within : (s i : ℕ) → i ≤ s → over (zeros s) i (zeros (s - i)) ≡ zeros s
-zeros-within s i h =
-    let m : s ≡ i + (s - i) = omega arith in
-    let e : zeros s ≡ zeros i ++ (zeros (s - i) ++ []) = ap zeros m ∙ sym (zeros-add i (s - i)) ∙ ap (λ (t : List ℕ). zeros i ++ t) (sym (append-nil (zeros (s - i)))) in
-    ap (λ (t : List ℕ). over t i (zeros (s - i))) e ∙ over-mid (zeros i) (zeros (s - i)) [] (zeros (s - i)) i (length-zeros i) refl ∙ sym e
-
 -- zeros, bytes and zeros written one behind the other
 pub filled : (l : List ℕ) (place : ℕ) (bs : List ℕ) → place + length bs ≤ length l → {a b c : List ℕ} → a ≡ over l 0 (zeros place) → b ≡ over a place bs
     → c ≡ over b (place + length bs) (zeros (length l - (place + length bs))) → c ≡ over (zeros (length l)) place bs

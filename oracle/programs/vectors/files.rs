@@ -194,7 +194,7 @@ impl Run {
     fn call(&mut self, generator: &mut Generator) -> Call {
         let node = 1 + generator.below(NAMES.len() as u64);
         let call = self.any_call(generator, node);
-        if !self.fits(call) {
+        if call.kind == WRITE && !self.fits(call) {
             return self.shrink(generator);
         }
         if call.kind == WRITE || call.kind == RESIZE {
@@ -306,19 +306,13 @@ impl Run {
         length.min(MOST_BUFFER)
     }
 
-    /// Whether there is room for every chunk that the call could take, whatever it frees.
-    fn fits(&self, call: Call) -> bool {
+    /// Whether there is room for every chunk that a write touches. The Rust has all that the scope
+    /// has, and those that it took for cuts.
+    fn fits(&self, write: Call) -> bool {
         let rows = |node| self.rust.chunk_rows(node).len() as u64;
         let used: u64 = (1..=NAMES.len() as u64).map(rows).sum();
-        let most = match call.kind {
-            WRITE if call.length > 0 => {
-                let end = call.place + call.length;
-                end.div_ceil(self.chunk) - call.place / self.chunk
-            }
-            RESIZE => 1,
-            _ => 0,
-        };
-        used + most <= self.room()
+        let (first, behind) = scope::touched(self.chunk, write.place, write.length);
+        used + (behind - first) <= self.room()
     }
 
     /// The file with the most chunks is cut, at a multiple of the chunk size.

@@ -155,6 +155,19 @@ fn cut_cuts_and_extends() {
 }
 
 #[test]
+fn cut_needs_no_room() {
+    let place = Place::with_volume("cut_full");
+    place.make_file("all", &noise(1, 16 * 4096));
+    place.run(["put", "v", "full", "all"]).done();
+    place.feed(&["put", "v", "sparse"], b"").done();
+    for size in ["40000", "20000", "40000"] {
+        place.run(["cut", "v", "sparse", size]).done();
+    }
+    assert_eq!(place.run(["get", "v", "sparse"]).done(), [0; 40_000]);
+    assert!(place.run(["report", "v"]).text().contains("chunks=16\n"));
+}
+
+#[test]
 fn limits_are_set_and_taken_back() {
     let place = Place::with_volume("limit");
     place.feed(&["put", "v", "a"], b"0123").done();

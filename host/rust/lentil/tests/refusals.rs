@@ -161,11 +161,6 @@ fn no_room_for_chunks() {
     );
     // An input without an end.
     place.refuses(&["put", "v", "x", "/dev/zero"], "x: no chunk room (6)");
-    // A hole that needs a chunk when a file is cut in it.
-    place.make_file("all", &noise(2, 14 * 4096));
-    place.run(["cut", "v", "g", "40000"]).done();
-    place.run(["put", "v", "x", "all"]).done();
-    place.refuses(&["cut", "v", "g", "20000"], "g: no chunk room (6)");
 }
 
 const NO_ROWS: &str = "node or entry rows used up, or next node is u64::MAX (7)";

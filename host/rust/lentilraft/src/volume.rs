@@ -220,13 +220,12 @@ impl<B: AsRef<[u8]> + AsMut<[u8]>> Volume<B> {
     }
 
     /// Cuts or extends a file. What lies above its old size reads as zero; what is cut off is
-    /// gone.
+    /// gone. It takes no chunk, so that it needs no room.
     ///
     /// # Errors
     ///
     /// `UnsoundMemory`. `NoSuchEntry`: no such node. `IsDirectory`. `FileTooLarge`: above the
-    /// file's limit. `NoChunkRoom`: the new end falls into a hole, and there is no room for a
-    /// chunk there.
+    /// file's limit.
     pub fn resize(&mut self, node: Node, size: u64) -> Result<()> {
         ffi::resize_file(self.memory.as_mut(), node.0, size)
     }

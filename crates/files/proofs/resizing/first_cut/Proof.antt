@@ -22,15 +22,15 @@ is-row-requires c κs = search needs
 
 add-result : tie.Need-add-result
 add-result c =
-    omega (arith, cut-behind (c .before .before .before .before .args .node) (c .before .before .before .before .args .end) (shown (now (c .before .before .before .before .args .volume)) .store) (c .before .before .before .before .pre .1) (c .before .before .before .before .pre .3 .0) (c .before .before .before .before .pre .2) (c .before .before .if1 .left) (c .before .is-row .ensures) (c .if2 .taken), rooms (now (c .before .before .before .before .args .volume)) (c .before .before .before .before .args .layout) (c .before .before .before .before .pre .0), count-chunks (now (c .before .before .before .before .args .volume)))
+    omega (arith, cut-behind (c .before .before .before .before .args .node) (c .before .before .before .before .args .end) (shown (now (c .before .before .before .before .args .volume)) .store) (c .before .before .before .before .pre .1) (c .before .before .before .before .pre .3 .0) (c .before .before .before .before .pre .2) (c .before .is-row .ensures) (c .if2 .taken) (c .before .before .if1 .left), rooms (now (c .before .before .before .before .args .volume)) (c .before .before .before .before .args .layout) (c .before .before .before .before .pre .0), count-chunks (now (c .before .before .before .before .args .volume)))
 
 returns-2 : tie.Need-returns-2
 returns-2 c =
-    cut-behind (c .before .before .before .before .args .node) (c .before .before .before .before .args .end) (shown (now (c .before .before .before .before .args .volume)) .store) (c .before .before .before .before .pre .1) (c .before .before .before .before .pre .3 .0) (c .before .before .before .before .pre .2) (c .before .before .if1 .left) (c .before .is-row .ensures) (c .if2 .taken)
+    cut-behind (c .before .before .before .before .args .node) (c .before .before .before .before .args .end) (shown (now (c .before .before .before .before .args .volume)) .store) (c .before .before .before .before .pre .1) (c .before .before .before .before .pre .3 .0) (c .before .before .before .before .pre .2) (c .before .is-row .ensures) (c .if2 .taken) (c .before .before .if1 .left)
 
 returns-3 : tie.Need-returns-3
 returns-3 c =
-    cut-there (c .before .before .before .before .args .node) (c .before .before .before .before .args .end) (shown (now (c .before .before .before .before .args .volume)) .store) (c .before .before .before .before .pre .1) (c .before .before .before .before .pre .3 .0) (c .before .before .before .before .pre .2) (c .before .before .if1 .left) (c .before .is-row .ensures) (c .if2 .left)
+    cut-there (c .before .before .before .before .args .node) (c .before .before .before .before .args .end) (shown (now (c .before .before .before .before .args .volume)) .store) (c .before .before .before .before .pre .1) (c .before .before .before .before .pre .3 .0) (c .before .before .before .before .pre .2) (c .before .is-row .ensures) (c .if2 .left) (c .before .before .if1 .left)
 
 pub first-cut-spec : {M : Type 1} → statement M
 first-cut-spec =

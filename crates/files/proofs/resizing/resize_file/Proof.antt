@@ -2,9 +2,7 @@ use borrow.Author.Needs.{needs}
 use Rattle.files.proofs.resizing.resize_file.Statement.{statement}
 use Rattle.files.proofs.resizing.resize_file.Tie as tie
 use denote.Ref.{now}
-use Rattle.volume.specs.Volume.{shown}
-use Rattle.store.proofs.Workable.{stored-workable}
-use Rattle.files.proofs.ResizeSteps.{resize-refused, row-place, size-asked, resize-above, resize-grown, resize-cramped, shrink-asked, resize-shrunk}
+use Rattle.files.proofs.ResizeSteps.{resize-refused, row-place, size-asked, resize-above, resize-grown, resize-shrunk}
 
 find-file-requires : tie.Need-find-file-requires
 find-file-requires c κs = search needs
@@ -46,44 +44,22 @@ returns-3 : tie.Need-returns-3
 returns-3 c =
     resize-grown (c .before .before .before .before .before .before .before .before .before .before .before .before .before .before .before .before .args .node) (c .before .before .before .before .before .before .before .before .before .before .before .before .before .before .before .before .args .size) (now (c .before .before .before .before .before .before .before .before .before .before .before .before .before .before .before .before .args .volume)) (c .before .before .before .before .before .before .before .before .before .before .before .before .before .before .before .before .args .layout) (c .before .before .before .before .before .before .before .before .before .before .before .before .before .before .before .before .pre .0) (c .before .before .before .before .before .before .before .before .before .before .before .before .before .before .before .before .pre .1) (c .before .before .before .before .before .before .before .before .before .before .before .found .given .1) (c .before .before .before .before .before .before .before .before .before .before .before .before .before .find-file .ensures) (c .before .before .before .before .before .before .before .before .file-limit .ensures) (c .before .before .before .before .before .before .before .if1 .left) (c .before .before .before .before .before .if2 .taken) (c .before .before .before .with-size .ensures) (c .before .before .change-node .ensures)
 
-chunk-size-requires : tie.Need-chunk-size-requires
-chunk-size-requires c κs = search needs
-
-div-first-chunk : tie.Need-div-first-chunk
-div-first-chunk c = search needs
-
-first-chunk-requires : tie.Need-first-chunk-requires
-first-chunk-requires c κs =
-    (c .before .before .before .before .before .before .before .before .before .before .before .before .before .before .pre .0, c .before .before .before .before .before .before .before .before .before .before .before .before .before .before .pre .1 .stored .order)
-
-is-cramped-requires : tie.Need-is-cramped-requires
-is-cramped-requires c κs =
-    (c .before .before .before .before .before .before .before .before .before .before .before .before .before .before .before .before .pre .0, stored-workable (shown (now (c .before .before .before .before .before .before .before .before .before .before .before .before .before .before .before .before .args .volume)) .store) (c .before .before .before .before .before .before .before .before .before .before .before .before .before .before .before .before .pre .0 .formed .fits .store) (c .before .before .before .before .before .before .before .before .before .before .before .before .before .before .before .before .pre .1 .stored), c .before .first-chunk .ensures .0, c .before .before .before .chunk-size .ensures)
-
-same-length-4 : tie.Need-same-length-4
-same-length-4 c = search needs
-
-returns-4 : tie.Need-returns-4
-returns-4 c =
-    resize-cramped (c .before .before .before .before .before .before .before .before .before .before .before .before .before .before .before .before .before .before .args .node) (c .before .before .before .before .before .before .before .before .before .before .before .before .before .before .before .before .before .before .args .size) (now (c .before .before .before .before .before .before .before .before .before .before .before .before .before .before .before .before .before .before .args .volume)) (c .before .before .before .before .before .before .before .before .before .before .before .before .before .before .before .before .before .before .args .layout) (c .before .before .before .before .before .before .before .before .before .before .before .before .before .before .before .before .before .before .pre .0) (c .before .before .before .before .before .before .before .before .before .before .before .before .before .before .before .before .before .before .pre .1) (c .before .before .before .before .before .before .before .before .before .before .before .before .before .found .given .1) (c .before .before .before .before .before .before .before .before .before .before .before .before .before .before .before .find-file .ensures) (c .before .before .before .before .before .before .before .before .before .before .file-limit .ensures) (c .before .before .before .before .before .before .before .before .before .if1 .left) (c .before .before .before .before .before .before .before .if2 .left) (c .before .is-cramped .ensures) (c .if3 .taken)
-
 resize-file-internal-requires : tie.Need-resize-file-internal-requires
-resize-file-internal-requires c κs =
-    shrink-asked (c .before .before .before .before .before .before .before .before .before .before .before .before .before .before .before .before .before .before .before .args .node) (c .before .before .before .before .before .before .before .before .before .before .before .before .before .before .before .before .before .before .before .args .size) (now (c .before .before .before .before .before .before .before .before .before .before .before .before .before .before .before .before .before .before .before .args .volume)) (c .before .before .before .before .before .before .before .before .before .before .before .before .before .before .before .before .before .before .before .args .layout) (c .before .before .before .before .before .before .before .before .before .before .before .before .before .before .before .before .before .before .before .pre .0) (c .before .before .before .before .before .before .before .before .before .before .before .before .before .before .before .before .before .before .before .pre .1) (c .before .before .before .before .before .before .before .before .before .before .before .before .before .before .found .given .1) (c .before .before .before .before .before .before .before .before .before .before .before .before .before .before .before .before .find-file .ensures) (c .before .before .before .before .before .before .before .before .before .before .before .file-limit .ensures) (c .before .before .before .before .before .before .before .before .before .before .if1 .left) (c .before .before .before .before .before .before .before .before .if2 .left) (c .before .before .is-cramped .ensures) (c .before .if3 .left) (c .before .before .before .before .before .before .chunk-size .ensures) (c .before .before .before .before .first-chunk .ensures .0)
+resize-file-internal-requires c κs = search needs
 
 with-size-requires-2 : tie.Need-with-size-requires-2
 with-size-requires-2 c κs = search needs
 
 change-node-requires-2 : tie.Need-change-node-requires-2
 change-node-requires-2 c κs =
-    size-asked (c .before .before .before .before .before .before .before .before .before .before .before .before .before .before .before .before .before .before .before .before .before .before .before .before .args .node) (c .before .before .before .before .before .before .before .before .before .before .before .before .before .before .before .before .before .before .before .before .before .before .before .before .args .size) (now (c .before .before .before .before .before .before .before .before .before .before .before .before .before .before .before .before .before .before .before .before .before .before .before .before .args .volume)) (c .before .before .before .before .before .before .before .before .before .before .before .before .before .before .before .before .before .before .before .before .before .before .before .before .args .layout) (c .before .before .before .before .before .before .before .before .before .before .before .before .before .before .before .before .before .before .before .before .before .before .before .before .pre .0) (c .before .before .before .before .before .before .before .before .before .before .before .before .before .before .before .before .before .before .before .before .before .before .before .before .pre .1) (c .before .before .before .before .before .before .before .before .before .before .before .before .before .before .before .before .before .before .before .found .given .1) (c .before .before .before .before .before .before .before .before .before .before .before .before .before .before .before .before .before .before .before .before .before .find-file .ensures) (c .before .before .before .before .before .before .before .before .before .before .before .before .before .before .before .before .file-limit .ensures) (c .before .before .before .before .before .before .before .before .before .before .before .before .before .before .before .if1 .left) (c .before .before .before .before .before .before .before .before .before .before .before .before .before .if2 .left) (c .before .before .before .before .before .before .before .is-cramped .ensures) (c .before .before .before .before .before .before .if3 .left) (c .before .before .before .before .resize-file-internal .ensures)
+    size-asked (c .before .before .before .before .before .before .before .before .before .before .before .before .before .before .before .before .before .args .node) (c .before .before .before .before .before .before .before .before .before .before .before .before .before .before .before .before .before .args .size) (now (c .before .before .before .before .before .before .before .before .before .before .before .before .before .before .before .before .before .args .volume)) (c .before .before .before .before .before .before .before .before .before .before .before .before .before .before .before .before .before .args .layout) (c .before .before .before .before .before .before .before .before .before .before .before .before .before .before .before .before .before .pre .0) (c .before .before .before .before .before .before .before .before .before .before .before .before .before .before .before .before .before .pre .1) (c .before .before .before .before .before .before .before .before .before .before .before .before .found .given .1) (c .before .before .before .before .before .before .before .before .before .before .before .before .before .before .find-file .ensures) (c .before .before .before .before .before .before .before .before .before .file-limit .ensures) (c .before .before .before .before .before .before .before .before .if1 .left) (c .before .before .before .before .before .before .if2 .left) (c .before .before .before .before .resize-file-internal .ensures)
 
-same-length-5 : tie.Need-same-length-5
-same-length-5 c = search needs
+same-length-4 : tie.Need-same-length-4
+same-length-4 c = search needs
 
-returns-5 : tie.Need-returns-5
-returns-5 c =
-    resize-shrunk (c .before .before .before .before .before .before .before .before .before .before .before .before .before .before .before .before .before .before .before .before .before .before .before .before .before .before .before .args .node) (c .before .before .before .before .before .before .before .before .before .before .before .before .before .before .before .before .before .before .before .before .before .before .before .before .before .before .before .args .size) (now (c .before .before .before .before .before .before .before .before .before .before .before .before .before .before .before .before .before .before .before .before .before .before .before .before .before .before .before .args .volume)) (c .before .before .before .before .before .before .before .before .before .before .before .before .before .before .before .before .before .before .before .before .before .before .before .before .before .before .before .args .layout) (c .before .before .before .before .before .before .before .before .before .before .before .before .before .before .before .before .before .before .before .before .before .before .before .before .before .before .before .pre .0) (c .before .before .before .before .before .before .before .before .before .before .before .before .before .before .before .before .before .before .before .before .before .before .before .before .before .before .before .pre .1) (c .before .before .before .before .before .before .before .before .before .before .before .before .before .before .before .before .before .before .before .before .before .before .found .given .1) (c .before .before .before .before .before .before .before .before .before .before .before .before .before .before .before .before .before .before .before .before .before .before .before .before .find-file .ensures) (c .before .before .before .before .before .before .before .before .before .before .before .before .before .before .before .before .before .before .before .file-limit .ensures) (c .before .before .before .before .before .before .before .before .before .before .before .before .before .before .before .before .before .before .if1 .left) (c .before .before .before .before .before .before .before .before .before .before .before .before .before .before .before .before .if2 .left) (c .before .before .before .before .before .before .before .before .before .before .is-cramped .ensures) (c .before .before .before .before .before .before .before .before .before .if3 .left) (c .before .before .before .before .before .before .before .resize-file-internal .ensures) (c .before .before .before .with-size2 .ensures) (c .before .before .change-node2 .ensures)
+returns-4 : tie.Need-returns-4
+returns-4 c =
+    resize-shrunk (c .before .before .before .before .before .before .before .before .before .before .before .before .before .before .before .before .before .before .before .before .args .node) (c .before .before .before .before .before .before .before .before .before .before .before .before .before .before .before .before .before .before .before .before .args .size) (now (c .before .before .before .before .before .before .before .before .before .before .before .before .before .before .before .before .before .before .before .before .args .volume)) (c .before .before .before .before .before .before .before .before .before .before .before .before .before .before .before .before .before .before .before .before .args .layout) (c .before .before .before .before .before .before .before .before .before .before .before .before .before .before .before .before .before .before .before .before .pre .0) (c .before .before .before .before .before .before .before .before .before .before .before .before .before .before .before .before .before .before .before .before .pre .1) (c .before .before .before .before .before .before .before .before .before .before .before .before .before .before .before .found .given .1) (c .before .before .before .before .before .before .before .before .before .before .before .before .before .before .before .before .before .find-file .ensures) (c .before .before .before .before .before .before .before .before .before .before .before .before .file-limit .ensures) (c .before .before .before .before .before .before .before .before .before .before .before .if1 .left) (c .before .before .before .before .before .before .before .before .before .if2 .left) (c .before .before .before .before .before .before .before .resize-file-internal .ensures) (c .before .before .before .with-size2 .ensures) (c .before .before .change-node2 .ensures)
 
 pub resize-file-spec : {M : Type 1} → statement M
 resize-file-spec =
@@ -101,14 +77,8 @@ resize-file-spec =
     change-node-requires
     same-length-3
     returns-3
-    chunk-size-requires
-    div-first-chunk
-    first-chunk-requires
-    is-cramped-requires
-    same-length-4
-    returns-4
     resize-file-internal-requires
     with-size-requires-2
     change-node-requires-2
-    same-length-5
-    returns-5)
+    same-length-4
+    returns-4)

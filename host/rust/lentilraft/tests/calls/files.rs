@@ -168,16 +168,20 @@ fn resize_is_refused() {
 }
 
 #[test]
-fn a_new_end_in_a_hole_needs_a_chunk() {
+fn a_sparse_file_is_cut_on_a_full_volume() {
     let (mut volume, full) = with_file();
-    let hollow = volume.create(ROOT, b"hollow", Kind::File).unwrap();
+    let sparse = volume.create(ROOT, b"sparse", Kind::File).unwrap();
     volume.write(full, 0, &[1; 8 * 4096]).unwrap();
-    volume.resize(hollow, 10 * SPAN).unwrap();
+    volume.resize(sparse, 10 * SPAN).unwrap();
+    assert_eq!(volume.resize(sparse, SPAN + 1), Ok(()));
+    assert_eq!(reported(&volume, "chunks"), 8);
+    assert_eq!(content(&volume, sparse, SPAN, 10), [0]);
+    volume.resize(sparse, 10 * SPAN).unwrap();
+    assert_eq!(content(&volume, sparse, 0, 10 * 4096), [0; 10 * 4096]);
     assert_eq!(
-        refusal(&mut volume, |v| v.resize(hollow, SPAN + 1)),
+        refusal(&mut volume, |v| v.write(sparse, SPAN, b"x")),
         Error::NoChunkRoom
     );
-    assert_eq!(volume.resize(hollow, SPAN), Ok(()));
 }
 
 #[test]
