@@ -55,8 +55,9 @@ pub const CUT: Command = Command {
     about: "cut a file of the volume, or extend it",
     places: "VOLUME PATH SIZE",
     options: &[],
-    details:
-        "What is cut off is gone. What a file gets behind its end is a gap, and reads as zeros.",
+    details: "\
+What is cut off is gone. What a file gets behind its end is a gap, and reads as zeros. Neither
+needs room in the volume.",
     example: "lentil cut traces.vol hood7/run1 40000",
     run: cut,
 };
