@@ -47,7 +47,7 @@ module _ (l : List ℕ) (f : WordsFormed l) where
   free-at i h =
       getD-take (word l 16) _ i 0 h ∙ table-at readWord 8 l 128 (freeRoom l) i 0 (omega (arith, free-room)) ∙ first-word l (128 + 8 * i)
 
-  pub words-counted : (p : ℕ) → tally (word l 16) (λ i. eqb (freeWord l i) p) ≡ count p (free (readAllocator l))
+  words-counted : (p : ℕ) → tally (word l 16) (λ i. eqb (freeWord l i) p) ≡ count p (free (readAllocator l))
   unfolding count
   words-counted p =
       tally-same (λ i. eqb (freeWord l i) p) (λ i. eqb (getD (free (readAllocator l)) i 0) p) (word l 16) (λ i h. ap (λ (k : ℕ). eqb k p) (sym (free-at i h)))

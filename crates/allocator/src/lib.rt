@@ -1,7 +1,6 @@
 // The chunk pointer allocator, on its words alone: a part of the volume that starts in its middle.
 mod opening;
 
-pub use opening::all_lined;
 pub use opening::is_lined;
 pub use opening::open;
 use types::Answer;

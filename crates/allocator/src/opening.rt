@@ -9,7 +9,7 @@ use types::Answer;
 use types::Error;
 ghost use mathlib.Core.Path.{_≡_};
 ghost use mathlib.Core.Bool.{true, not};
-ghost use Prim.Native.Nat.{ℕ, _+_, _-_, _*_, _≤_, _<_};
+ghost use Prim.Native.Nat.{_+_, _-_, _*_, _≤_, _<_};
 ghost use lib.ListN.{length};
 ghost use lib.Dec.{eqb};
 ghost use Rattle.words.specs.Bytes.{word};
@@ -72,7 +72,7 @@ pub fn is_lined(span: u64, next: u64, pointer: u64) -> bool
 }
 
 // Every free pointer is aligned and below word 3.
-pub fn all_lined(words: &[u8], count: usize, span: u64, next: u64) -> bool
+fn all_lined(words: &[u8], count: usize, span: u64, next: u64) -> bool
     requires { ⌜ (0 < span) × (128 + 8 * count ≤ length (now words)) ⌝ }
     ensures { λ r. ⌜ r ≡ upto count (λ i. lined span next (freeWord (now (words .entry)) i)) ⌝ }
 {

@@ -1,9 +1,9 @@
 -- What the whole check means: it accepts exactly what is sound.
 -- Assumes nothing.
 use mathlib.Core.Path.{_≡_, ap}
-use mathlib.Core.Bool.{Bool, true, false}
+use mathlib.Core.Bool.{true, false}
 use mathlib.Core.List.{List}
-use Prim.Native.Nat.{ℕ, _+_, _*_, _<_}
+use Prim.Native.Nat.{ℕ, _+_, _*_, _≤_, _<_}
 use native.Mathlib.Omega.{arith}
 use lib.ListN.{length}
 use denote.Enum.Declared.{tagOf}
@@ -31,7 +31,7 @@ use Rattle.soundness.proofs.FrameRules.{says-framed}
 use Rattle.soundness.proofs.OrderRules.{says-node-order, says-entry-order, says-chunk-order, says-indexed, says-below, says-names, says-unnamed, says-root}
 use Rattle.soundness.proofs.EntryRules.{says-parents, says-targets, says-once}
 use Rattle.soundness.proofs.NodeRules.{says-nodes}
-use Rattle.soundness.proofs.PointerRules.{says-next, says-pointers}
+use Rattle.soundness.proofs.PointerRules.{says-next, next-low, says-pointers}
 use Rattle.soundness.proofs.OwnerRules.{says-owned}
 
 -- ---- the rules, group by group
@@ -62,19 +62,19 @@ says-named a =
     (says-both (says-indexed (a .entries)) (says-both (says-below (a .nextNode) (a .nodes)) (says-both (says-root a (o .0)) (says-both (says-unnamed (a .entries)) (says-names (a .entries))))))
     (says-both (says-parents a (o .0)) (says-both (says-targets a (o .0)) (says-both (says-once (a .entries) (o .1)) (says-nodes (a .nodes) (a .entries)))))))
 
-pub says-stored : (s : Store) → 0 < s .allocator .chunkSize → Says (Stored s) (stored s)
+pub says-stored : (s : Store) → 0 < s .allocator .chunkSize → s .chunkRoom ≤ 4096 → Says (Stored s) (stored s)
 unfolding stored
-says-stored s pos =
+says-stored s pos room =
     says-map (λ p. record { order = p .0; lined = p .1 .0 .0; inside = p .1 .0 .1 .0; enough = p .1 .0 .1 .1; pointers = p .1 .1 })
     (λ t. (t .order, ((t .lined, (t .inside, t .enough)), t .pointers)))
     (says-both (says-chunk-order (s .chunks)) (says-and (says-next (s .allocator .chunkSize) (s .allocator .nextPtr) (length (s .bytes)) (s .chunkRoom))
-    (λ f. says-pointers (s .allocator .chunkSize) (s .allocator .nextPtr) pos (f .0) (s .chunks) (free (s .allocator)))))
+    (λ f. says-pointers (s .allocator .chunkSize) (s .allocator .nextPtr) pos (next-low (s .allocator .chunkSize) (s .allocator .nextPtr) (s .chunkRoom) room (f .1 .1)) (f .0) (s .chunks) (free (s .allocator)))))
 
-says-good : (v : Volume) → 0 < v .store .allocator .chunkSize → Says (Good v) (good v)
+says-good : (v : Volume) → 0 < v .store .allocator .chunkSize → v .store .chunkRoom ≤ 4096 → Says (Good v) (good v)
 unfolding good
-says-good v pos =
+says-good v pos room =
     says-map (λ p. record { named = p .0; stored = p .1 .0; owned = p .1 .1 }) (λ g. (g .named, (g .stored, g .owned)))
-    (says-and (says-named (v .names)) (λ n. says-both (says-stored (v .store) pos) (says-owned (v .names) (v .store) pos (n .nodeOrder))))
+    (says-and (says-named (v .names)) (λ n. says-both (says-stored (v .store) pos room) (says-owned (v .names) (v .store) pos (n .nodeOrder))))
 
 -- ---- of bytes
 
@@ -82,10 +82,14 @@ size-there : (l : List ℕ) → Framed l → 0 < shown l .store .allocator .chun
 unfolding shown readAllocator
 size-there l f = omega (arith, num-part 8 l 64 (128 + 8 * word l atChunkRoom) 8 (omega arith), accepted-bounds (word l atChunkSize) (f .marked .size))
 
+room-there : (l : List ℕ) → Framed l → shown l .store .chunkRoom ≤ 4096
+unfolding shown
+room-there l f = f .headed .placed .chunks .1
+
 -- the check accepts exactly what is sound
 pub says-sound : (l : List ℕ) → Says (Sound l) (sound l)
 unfolding sound
-says-sound l = says-map (λ p. record { framed = p .0; good = p .1 }) (λ s. (s .framed, s .good)) (says-and (says-framed l) (λ f. says-good (shown l) (size-there l f)))
+says-sound l = says-map (λ p. record { framed = p .0; good = p .1 }) (λ s. (s .framed, s .good)) (says-and (says-framed l) (λ f. says-good (shown l) (size-there l f) (room-there l f)))
 
 pub sound-true : (l : List ℕ) → sound l ≡ true → Sound l
 sound-true l e = says-true (says-sound l) e

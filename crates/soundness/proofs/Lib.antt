@@ -3,6 +3,7 @@ pub mod OrderRules
 pub mod EntryRules
 pub mod NodeRules
 pub mod Counters
+pub mod Marks
 pub mod PointerRules
 pub mod OwnerRules
 pub mod Checked

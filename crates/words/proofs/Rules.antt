@@ -69,10 +69,6 @@ upto-end f n i p e = sym (rw e at p)
 
 -- ---- a loop that counts
 
-pub tally-start : (f : ℕ → Bool) → 0 ≡ tally 0 f
-unfolding tally
-tally-start f = refl
-
 pub tally-turn : (f : ℕ → Bool) (i : ℕ) {c b : ℕ} → c ≡ tally i f → b ≡ bit (f i) → c + b ≡ tally (i + 1) f
 unfolding tally
 tally-turn f i p e = rw (add-one, p, e)
@@ -97,6 +93,49 @@ pub tally-same : (f g : ℕ → Bool) (n : ℕ) → ((i : ℕ) → i < n → f i
 unfolding tally
 tally-same f g zero h = refl
 tally-same f g (suc n) h = rw (tally-same f g n (λ i b. h i (omega arith)), h n (omega arith))
+
+-- more places, as many or more that pass
+pub tally-grows : (f : ℕ → Bool) (i n : ℕ) → i ≤ n → tally i f ≤ tally n f
+unfolding tally
+tally-grows f i zero h = let e : i ≡ 0 = omega arith in rw e (omega arith)
+tally-grows f i (suc n) h = go (decLt n i) (λ b. tally-grows f i n b)
+  where
+    go : Dec (n < i) → (i ≤ n → tally i f ≤ tally n f) → tally i f ≤ tally n f + bit (f n)
+    go (yes k) r = let e : i ≡ suc n = omega arith in rw e (omega arith)
+    go (no k) r = omega (arith, r (omega arith))
+
+-- all places pass, said both ways
+pub tally-all : (f : ℕ → Bool) (n : ℕ) → ((i : ℕ) → i < n → f i ≡ true) → tally n f ≡ n
+unfolding tally bit
+tally-all f zero h = refl
+tally-all f (suc n) h = rw (tally-all f n (λ i b. h i (omega arith)), h n (omega arith)) (omega arith)
+
+bit-true : (b : Bool) → 1 ≤ bit b → b ≡ true
+unfolding bit
+bit-true true h = refl
+bit-true false h = absurd (omega arith)
+
+pub all-tally : (f : ℕ → Bool) (n : ℕ) → tally n f ≡ n → (i : ℕ) → i < n → f i ≡ true
+unfolding tally
+all-tally f zero e i h = absurd (omega arith)
+all-tally f (suc n) e i h = go (decLt i n) (all-tally f n (omega (arith, tally-le f n, bit-most (f n))) i)
+  where
+    go : Dec (i < n) → (i < n → f i ≡ true) → f i ≡ true
+    go (yes k) r = r k
+    go (no k) r = let q : i ≡ n = omega arith in rw q (bit-true (f n) (omega (arith, tally-le f n)))
+
+-- one place more passes
+pub tally-more : (f g : ℕ → Bool) (n k : ℕ) → k < n → f k ≡ false → g k ≡ true → ((i : ℕ) → (i ≡ k → ⊥) → f i ≡ g i) → tally n g ≡ tally n f + 1
+unfolding tally bit
+tally-more f g zero k h a b e = absurd (omega arith)
+tally-more f g (suc n) k h a b e = go (decLt k n) (λ l. tally-more f g n k l a b e)
+  where
+    go : Dec (k < n) → (k < n → tally n g ≡ tally n f + 1) → tally n g + bit (g n) ≡ tally n f + bit (f n) + 1
+    go (yes l) r = let q : bit (f n) ≡ bit (g n) = ap bit (e n (λ z. omega arith)) in omega (arith, r l)
+    go (no l) r =
+        let q : k ≡ n = omega arith in
+        let s = tally-same f g k (λ i z. e i (λ y. omega arith)) in
+        rw (← q, a, b) (omega (arith, s))
 
 pub upto-same : (f g : ℕ → Bool) (n : ℕ) → ((i : ℕ) → i < n → f i ≡ g i) → upto n f ≡ upto n g
 unfolding upto

@@ -7,7 +7,7 @@ use Rattle.allocator.specs.Allocator.{free}
 use Rattle.volume.specs.Volume.{shown}
 use Rattle.tables.proofs.LentAllocator.{size-bounds}
 use Rattle.soundness.specs.Checked.{stored}
-use Rattle.soundness.proofs.PointerRules.{next-as, pointers-as}
+use Rattle.soundness.proofs.PointerRules.{next-there, next-as, pointers-as}
 
 chunks-ascend-requires : tie.Need-chunks-ascend-requires
 chunks-ascend-requires c κs = c .before .pre .0
@@ -36,7 +36,7 @@ returns-2 c =
 
 pointers-good-requires : tie.Need-pointers-good-requires
 pointers-good-requires c κs =
-    (c .before .before .before .before .before .before .before .before .pre .0, omega (arith, c .before .before .before .before .before .before .before .before .pre .1, (size-bounds (now (c .before .before .before .before .before .before .before .before .args .volume)) (c .before .before .before .before .before .before .before .before .args .layout) (c .before .before .before .before .before .before .before .before .pre .0))))
+    (c .before .before .before .before .before .before .before .before .pre .0, omega (arith, c .before .before .before .before .before .before .before .before .pre .1, (size-bounds (now (c .before .before .before .before .before .before .before .before .args .volume)) (c .before .before .before .before .before .before .before .before .args .layout) (c .before .before .before .before .before .before .before .before .pre .0))), next-there _ _ _ _ (c .before .before .chunk-room .ensures .1) (call-yes (c .before .next-fits .ensures) (c .if2 .left)))
 
 returns-3 : tie.Need-returns-3
 unfolding stored
