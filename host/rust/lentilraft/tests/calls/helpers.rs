@@ -18,8 +18,10 @@ pub const MISSING: Node = Node(77);
 /// Where words of the header stand that tests change.
 pub const FREE_COUNT: usize = 80;
 pub const NEXT_NODE: usize = 56;
+/// Where the free pointers stand.
+pub const FREE_WORDS: usize = 192;
 /// Where the tables of a volume with `ROOMS` stand.
-pub const NODE_ROWS: usize = 192 + 8 * 8;
+pub const NODE_ROWS: usize = FREE_WORDS + 8 * 8;
 pub const ENTRY_ROWS: usize = NODE_ROWS + 40 * 8;
 pub const CHUNK_ROWS: usize = ENTRY_ROWS + 280 * 8;
 pub const CHUNK_AREA: usize = CHUNK_ROWS + 24 * 8;

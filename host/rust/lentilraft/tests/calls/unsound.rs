@@ -1,12 +1,22 @@
 //! A volume with one broken byte: every call refuses it, and leaves every byte.
 
-use lentilraft::{ChunkSize, Error, Expected, Kind, Node, Result, Volume, ROOT};
+use lentilraft::{ChunkSize, Error, Expected, Kind, Node, Result, Rooms, Volume, ROOT};
 
 use crate::helpers::{
-    new_volume, refusal, Owned, CHUNK_AREA, CHUNK_ROWS, ENTRY_ROWS, FREE_COUNT, NODE_ROWS, ROOMS,
+    new_volume, refusal, with_bytes, Owned, CHUNK_AREA, CHUNK_ROWS, ENTRY_ROWS, FREE_COUNT,
+    FREE_WORDS, NODE_ROWS, ROOMS,
 };
 
 const FILE: Node = Node(1);
+
+const GREATEST: Rooms = Rooms {
+    nodes: 2,
+    entries: 1,
+    chunks: 4096,
+};
+const CHUNK: u64 = 4096;
+/// The last chunk row of a volume with `GREATEST`.
+const LAST_ROW: usize = FREE_WORDS + 8 * 4096 + 40 * 2 + 280 + 24 * 4095;
 
 type Call = fn(&mut Owned) -> Result<()>;
 
@@ -111,4 +121,48 @@ fn a_broken_volume_is_made_new() {
     bytes[0] ^= 1;
     let volume = Volume::new(bytes, ROOMS, ChunkSize::Small).unwrap();
     assert_eq!(volume.check(), Ok(()));
+}
+
+/// As many chunks as a volume may have, all of them in one file: the check has a mark for the pointer of each.
+fn greatest() -> Owned {
+    let bytes = vec![0xa5; GREATEST.length_for(ChunkSize::Small) as usize];
+    let mut volume = Volume::new(bytes, GREATEST, ChunkSize::Small).unwrap();
+    assert_eq!(volume.create(ROOT, b"f", Kind::File), Ok(FILE));
+    let length = GREATEST.chunks as usize * CHUNK as usize;
+    assert_eq!(volume.write(FILE, 0, &vec![1; length]), Ok(length));
+    volume
+}
+
+#[test]
+fn the_last_pointer_that_a_volume_may_have_stands_once() {
+    let mut volume = greatest();
+    assert_eq!(volume.check(), Ok(()));
+    let last = LAST_ROW + 16;
+    let word3 = GREATEST.chunks * CHUNK;
+    for wrong in [
+        0,
+        CHUNK,
+        word3 - 2 * CHUNK,
+        word3 - CHUNK + 1,
+        word3,
+        u64::MAX - CHUNK + 1,
+    ] {
+        volume = with_bytes(volume, last, &wrong.to_le_bytes());
+        assert_eq!(volume.check(), Err(Error::UnsoundMemory), "{}", wrong);
+    }
+    volume = with_bytes(volume, last, &(word3 - CHUNK).to_le_bytes());
+    assert_eq!(volume.check(), Ok(()));
+}
+
+#[test]
+fn the_last_pointer_that_a_volume_may_have_is_free_once() {
+    let mut volume = greatest();
+    volume.resize(FILE, (GREATEST.chunks - 1) * CHUNK).unwrap();
+    assert_eq!(volume.check(), Ok(()));
+    volume = with_bytes(volume, FREE_COUNT, &0u64.to_le_bytes());
+    assert_eq!(volume.check(), Err(Error::UnsoundMemory), "missing");
+    volume = with_bytes(volume, FREE_COUNT, &1u64.to_le_bytes());
+    assert_eq!(volume.check(), Ok(()));
+    volume = with_bytes(volume, FREE_WORDS, &0u64.to_le_bytes());
+    assert_eq!(volume.check(), Err(Error::UnsoundMemory), "the first row's");
 }
