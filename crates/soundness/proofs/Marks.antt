@@ -18,7 +18,7 @@ use Rattle.words.proofs.Counting.{bit-same, bit-apart, tally-none}
 use Rattle.words.proofs.Multiples.{whole, chunk-of}
 use Rattle.allocator.specs.Opening.{lined}
 use Rattle.allocator.proofs.OpenWords.{says-lined}
-use Rattle.soundness.specs.PointerRules.{unmarked, marked, markable, marksAfter, allMarkable, Passed}
+use Rattle.soundness.specs.PointerRules.{unmarked, withMark, markable, marksAfter, allMarkable, Passed}
 
 -- ---- what the tests mean
 
@@ -77,12 +77,12 @@ module _ (s next : ℕ) (pos : 0 < s) (room : next ≤ 4096 * s) where
         low : p / s < 4096
         low = place-low p (l .1)
 
-        mark-there : getD (marked s p m) (p / s) 0 ≡ 1
-        unfolding marked
+        mark-there : getD (withMark s p m) (p / s) 0 ≡ 1
+        unfolding withMark
         mark-there = getD-set-same m (p / s) 1 0 (omega (arith, low, w .long))
 
-        mark-other : (q : ℕ) → (q ≡ p / s → ⊥) → getD (marked s p m) q 0 ≡ getD m q 0
-        unfolding marked
+        mark-other : (q : ℕ) → (q ≡ p / s → ⊥) → getD (withMark s p m) q 0 ≡ getD m q 0
+        unfolding withMark
         mark-other q h = getD-set-other m (p / s) q 1 0 h
 
         stands-there : stood (p / s * s) + bit (eqb p (p / s * s)) ≡ 1
@@ -94,16 +94,16 @@ module _ (s next : ℕ) (pos : 0 < s) (room : next ≤ 4096 * s) where
         stands-other : (q : ℕ) → (q ≡ p / s → ⊥) → bit (eqb p (q * s)) ≡ 0
         stands-other q h = bit-apart p (q * s) (λ e. h (sym (ap (λ (x : ℕ). x / s) e ∙ chunk-of s q (q * s) (omega arith) (omega arith))))
 
-        shows-mark : Shows s next (λ x. stood x + bit (eqb p x)) (n + 1) (marked s p m)
+        shows-mark : Shows s next (λ x. stood x + bit (eqb p x)) (n + 1) (withMark s p m)
         shows-mark = record {
-          long = unfold marked in length-set m (p / s) 1 ∙ w .long;
+          long = unfold withMark in length-set m (p / s) 1 ∙ w .long;
           each = λ q b. each-of q b (says-eqb q (p / s));
-          total = tally-more (λ q. eqb (getD m q 0) 1) (λ q. eqb (getD (marked s p m) q 0) 1) (next / s) (p / s) (place-due p l)
-              (ne-eqb (getD m (p / s) 0) 1 (λ e. omega arith)) (eq-eqb (getD (marked s p m) (p / s) 0) 1 mark-there)
+          total = tally-more (λ q. eqb (getD m q 0) 1) (λ q. eqb (getD (withMark s p m) q 0) 1) (next / s) (p / s) (place-due p l)
+              (ne-eqb (getD m (p / s) 0) 1 (λ e. omega arith)) (eq-eqb (getD (withMark s p m) (p / s) 0) 1 mark-there)
               (λ q h. ap (λ (x : ℕ). eqb x 1) (sym (mark-other q h))) ∙ ap (λ (x : ℕ). x + 1) (w .total);
         }
           where
-            each-of : (q : ℕ) → q < 4096 → {t : Bool} → Says (q ≡ p / s) t → getD (marked s p m) q 0 ≡ stood (q * s) + bit (eqb p (q * s))
+            each-of : (q : ℕ) → q < 4096 → {t : Bool} → Says (q ≡ p / s) t → getD (withMark s p m) q 0 ≡ stood (q * s) + bit (eqb p (q * s))
             each-of q b (holds e) = rw e (mark-there ∙ sym stands-there)
             each-of q b (fails h) = omega (arith, mark-other q h, stands-other q h, w .each q b)
 
@@ -179,7 +179,7 @@ module _ (s next : ℕ) (f : ℕ → ℕ) (m : List ℕ) where
   unfolding allMarkable marksAfter
   pass-start = (sym (upto-start inTurn), λ e. refl)
 
-  module _ (i : ℕ) {v : List ℕ} (w : Passed s next f i m true v) {p : ℕ} {r : Bool} {u : List ℕ} (e : p ≡ f i) (k : (r ≡ markable s next p v) × (r ≡ true → u ≡ marked s p v)) where
+  module _ (i : ℕ) {v : List ℕ} (w : Passed s next f i m true v) {p : ℕ} {r : Bool} {u : List ℕ} (e : p ≡ f i) (k : (r ≡ markable s next p v) × (r ≡ true → u ≡ withMark s p v)) where
     asked : r ≡ inTurn i
     asked = k .0 ∙ rw (e, w .1 refl)
 

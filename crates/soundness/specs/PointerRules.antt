@@ -23,8 +23,9 @@ nextFits s next area c = both (eqb (next % s) 0) (both (leb next area) (leb next
 abbrev pub unmarked : List ℕ
 unmarked = replicate mostRows 0
 
-unfoldable pub marked : ℕ → ℕ → List ℕ → List ℕ
-marked s p m = set m (p / s) 1
+-- that of a pointer, set
+unfoldable pub withMark : ℕ → ℕ → List ℕ → List ℕ
+withMark s p m = set m (p / s) 1
 
 -- a pointer is aligned, below word 3, and not marked yet
 unfoldable pub markable : ℕ → ℕ → ℕ → List ℕ → Bool
@@ -33,7 +34,7 @@ markable s next p m = both (lined s next p) (eqb (getD m (p / s) 0) 0)
 -- the marks after the first n of some pointers
 unfoldable pub marksAfter : ℕ → (ℕ → ℕ) → ℕ → List ℕ → List ℕ
 marksAfter s p zero m = m
-marksAfter s p (suc n) m = marked s (p n) (marksAfter s p n m)
+marksAfter s p (suc n) m = withMark s (p n) (marksAfter s p n m)
 
 -- each of the first n can be marked in its turn
 unfoldable pub allMarkable : ℕ → ℕ → (ℕ → ℕ) → ℕ → List ℕ → Bool

@@ -8,7 +8,7 @@ ghost use Rattle.allocator.specs.Allocator.{free};
 ghost use Rattle.allocator.specs.Opening.{freeWord};
 ghost use Rattle.volume.specs.Volume.{shown};
 ghost use Rattle.tables.specs.Tables.{Ready};
-ghost use Rattle.soundness.specs.PointerRules.{nextFits, marked, markable, Passed, rowPointer, pointersGood};
+ghost use Rattle.soundness.specs.PointerRules.{nextFits, withMark, markable, Passed, rowPointer, pointersGood};
 
 // As many marks as a volume may have chunks.
 const MARKS: usize = types::MOST_ROWS as usize;
@@ -34,7 +34,7 @@ pub fn next_fits(span: u64, next: u64, area: u64, chunks: u64) -> bool
 // Marks a pointer: whether it is a multiple of the chunk size below word 3, and was not marked yet.
 fn mark(marks: &mut [u8; MARKS], span: u64, next: u64, pointer: u64) -> bool
     requires { ⌜ (0 < span) × (next ≤ 4096 * span) ⌝ }
-    ensures { λ r. ⌜ (r ≡ markable span next pointer (now (marks .entry))) × (r ≡ true → now (marks .exit) ≡ marked span pointer (now (marks .entry))) ⌝ }
+    ensures { λ r. ⌜ (r ≡ markable span next pointer (now (marks .entry))) × (r ≡ true → now (marks .exit) ≡ withMark span pointer (now (marks .entry))) ⌝ }
 {
     if !allocator::is_lined(span, next, pointer) {
         return false;

@@ -4,7 +4,7 @@ use Rattle.soundness.proofs.pointers.mark.Tie as tie
 use mathlib.Core.Path.{refl, sym}
 use mathlib.Core.Bool.{false≢true}
 use Rattle.words.proofs.Rules.{stop, go-on, call-yes, call-no, is-yes, is-no}
-use Rattle.soundness.specs.PointerRules.{marked, markable}
+use Rattle.soundness.specs.PointerRules.{withMark, markable}
 use Rattle.soundness.proofs.Marks.{place-there}
 
 is-lined-requires : tie.Need-is-lined-requires
@@ -31,7 +31,7 @@ element-write-marks c =
     (place-there (c .before .before .before .before .args .span) (c .before .before .before .before .args .next) (c .before .before .before .before .args .pointer) (c .before .before .before .before .pre .0) (c .before .before .before .before .pre .1) (call-yes (c .before .before .before .is-lined .ensures) (c .before .before .if1 .left)))
 
 returns-3 : tie.Need-returns-3
-unfolding markable marked
+unfolding markable withMark
 returns-3 c =
     (go-on _ _ (call-yes (c .before .before .before .is-lined .ensures) (c .before .before .if1 .left)) (sym (is-yes refl (c .if2 .left))), λ e. refl)
 
