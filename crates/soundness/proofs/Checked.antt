@@ -82,7 +82,7 @@ size-there : (l : List ℕ) → Framed l → 0 < shown l .store .allocator .chun
 unfolding shown readAllocator
 size-there l f = omega (arith, num-part 8 l 64 (128 + 8 * word l atChunkRoom) 8 (omega arith), accepted-bounds (word l atChunkSize) (f .marked .size))
 
-room-there : (l : List ℕ) → Framed l → shown l .store .chunkRoom ≤ 4096
+pub room-there : (l : List ℕ) → Framed l → shown l .store .chunkRoom ≤ 4096
 unfolding shown
 room-there l f = f .headed .placed .chunks .1
 

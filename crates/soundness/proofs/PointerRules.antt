@@ -27,7 +27,6 @@ use Rattle.volume.specs.Rows.{readChunk}
 use Rattle.volume.specs.declared.Layout.{Layout}
 use Rattle.volume.specs.Volume.{shown, wordsIn}
 use Rattle.tables.specs.Tables.{Ready}
-use Rattle.tables.proofs.ReadyVolume.{rooms}
 use Rattle.tables.proofs.LentAllocator.{lentWords, words-lent, lent-long, lent-formed}
 use Rattle.soundness.specs.PointerRules.{nextFits, unmarked, marksAfter, allMarkable, rowPointer, freePointer, pointersGood}
 use Rattle.soundness.proofs.Marks.{Lined, Markable, Shows, shows-as, shows-none, place-due, all-met, met-all, says-all, shows-pass, all-first, markable-same}
@@ -144,10 +143,6 @@ module _ (s next : ℕ) (pos : 0 < s) (room : next ≤ 4096 * s) (al : next % s 
 module _ (l : List ℕ) (y : Layout) (r : Ready l y) where
   abbrev allocator : Allocator
   allocator = shown l .store .allocator
-
-  pub room-low : shown l .store .chunkRoom ≤ 4096
-  unfolding shown
-  room-low = rooms l y r .chunkRoom
 
   count-fits : allocator .freeCount ≤ word l atChunkRoom
   count-fits = unfold shown in r .formed .fits .store .free

@@ -5,9 +5,9 @@ use denote.Ref.{now}
 use native.Mathlib.Omega.{arith}
 use Rattle.words.proofs.Rules.{stop, go-on, call-yes, call-no, says-true}
 use Rattle.volume.specs.Volume.{shown}
+use Rattle.tables.proofs.LentAllocator.{framed}
 use Rattle.soundness.specs.Checked.{good}
-use Rattle.soundness.proofs.PointerRules.{room-low}
-use Rattle.soundness.proofs.Checked.{says-named, says-stored}
+use Rattle.soundness.proofs.Checked.{says-named, says-stored, room-there}
 
 is-named-requires : tie.Need-is-named-requires
 is-named-requires c κs = search needs
@@ -31,7 +31,7 @@ is-owned-requires : tie.Need-is-owned-requires
 is-owned-requires c κs = (
   c .before .before .before .before .before .before .pre,
   says-true (says-named (shown (now (c .before .before .before .before .before .before .args .volume)) .names)) (call-yes (c .before .before .before .before .is-named .ensures) (c .before .before .before .if1 .left)),
-  says-true (says-stored (shown (now (c .before .before .before .before .before .before .args .volume)) .store) (omega (arith, c .before .before .chunk-size .ensures)) (room-low (now (c .before .before .before .before .before .before .args .volume)) (c .before .before .before .before .before .before .args .layout) (c .before .before .before .before .before .before .pre))) (call-yes (c .before .is-stored .ensures) (c .if2 .left)),
+  says-true (says-stored (shown (now (c .before .before .before .before .before .before .args .volume)) .store) (omega (arith, c .before .before .chunk-size .ensures)) (room-there (now (c .before .before .before .before .before .before .args .volume)) (framed (now (c .before .before .before .before .before .before .args .volume)) (c .before .before .before .before .before .before .args .layout) (c .before .before .before .before .before .before .pre)))) (call-yes (c .before .is-stored .ensures) (c .if2 .left)),
   c .before .before .chunk-size .ensures .0,
 )
 

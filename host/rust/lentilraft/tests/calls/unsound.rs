@@ -1,4 +1,5 @@
-//! A volume with one broken byte: every call refuses it, and leaves every byte.
+//! A volume with one broken byte: every call refuses it, and leaves every byte. And the last pointer
+//! that a volume may have: it stands once, in a row or free.
 
 use lentilraft::{ChunkSize, Error, Expected, Kind, Node, Result, Rooms, Volume, ROOT};
 
