@@ -1,48 +1,78 @@
 -- Laws of the accepted sizes, and of setting one.
 -- Assumes nothing.
-use mathlib.Core.Path.{_≡_, refl}
+use mathlib.Core.Path.{_≡_, refl, sym, ap, _∙_}
 use mathlib.Core.Bool.{Bool, true, false}
-use mathlib.Core.Logic.{_⊎_, inl, inr}
-use Prim.Native.Nat.{ℕ, _≤_}
+use Prim.Native.Nat.{ℕ, _^_, _≤_, _<_}
 use native.Mathlib.Omega.{arith}
+use lib.Count.{ones, trailingZeros}
 use lib.Dec.{eqb}
-use borrow.Author.Tests.{ne-eqb}
-use Rattle.words.specs.Rules.{pick, either, Says, holds}
-use Rattle.words.proofs.Rules.{says-either, says-eqb, says-true}
+use lib.Pow.{pow-mono}
+use borrow.Author.Tests.{eq-eqb, ne-eqb, le-leb, lt-leb}
+use Rattle.words.specs.Rules.{pick, Says, holds}
+use Rattle.words.proofs.Rules.{stop, go-on, says-map, says-both, says-eqb, says-leb, says-true, true-says}
+use Rattle.words.proofs.Powers.{one-set, power-ones, power-zeros}
 use Rattle.types.specs.declared.Answer.the-variants.{Done, Refused}
 use Rattle.types.specs.declared.Error.{Error}
 use Rattle.types.specs.declared.Error.the-variants.{InvalidArgument}
-use Rattle.allocator.specs.Sizes.{acceptedSize}
+use Rattle.allocator.specs.Sizes.{leastShift, mostShift, acceptedSize}
 use Rattle.allocator.specs.Allocator.{Allocator, AllocatorStep, withSize, setChunkSize}
 
-pub accepted-1 : {s : ℕ} → s ≡ 4096 → true ≡ acceptedSize s
-unfolding acceptedSize either
-accepted-1 e = rw e
+-- ---- what the code finds
 
-pub accepted-2 : {s : ℕ} → s ≡ 16384 → true ≡ acceptedSize s
-unfolding acceptedSize either
-accepted-2 e = rw e
+module _ (s : ℕ) where
+  pub other-bits : (ones s ≡ 1 → ⊥) → false ≡ acceptedSize s
+  unfolding acceptedSize
+  other-bits h = stop _ _ (ne-eqb _ _ h)
 
-pub accepted-3 : {s : ℕ} → s ≡ 65536 → true ≡ acceptedSize s
-unfolding acceptedSize either
-accepted-3 e = rw e
+  pub zeros-below : ones s ≡ 1 → trailingZeros 64 s < leastShift → false ≡ acceptedSize s
+  unfolding acceptedSize
+  zeros-below e h = go-on _ _ (eq-eqb _ _ e) (stop _ _ (lt-leb _ _ h))
 
-pub accepted-none : {s : ℕ} → (s ≡ 4096 → ⊥) → (s ≡ 16384 → ⊥) → (s ≡ 65536 → ⊥) → false ≡ acceptedSize s
-unfolding acceptedSize either
-accepted-none a b c = rw (ne-eqb _ _ a, ne-eqb _ _ b, ne-eqb _ _ c)
+  pub zeros-above : ones s ≡ 1 → leastShift ≤ trailingZeros 64 s → mostShift < trailingZeros 64 s → false ≡ acceptedSize s
+  unfolding acceptedSize
+  zeros-above e l h = go-on _ _ (eq-eqb _ _ e) (go-on _ _ (le-leb _ _ l) (sym (lt-leb _ _ h)))
 
-pub says-accepted : (s : ℕ) → Says ((s ≡ 4096) ⊎ ((s ≡ 16384) ⊎ (s ≡ 65536))) (acceptedSize s)
+  pub zeros-within : ones s ≡ 1 → leastShift ≤ trailingZeros 64 s → trailingZeros 64 s ≤ mostShift → true ≡ acceptedSize s
+  unfolding acceptedSize
+  zeros-within e l h = go-on _ _ (eq-eqb _ _ e) (go-on _ _ (le-leb _ _ l) (sym (le-leb _ _ h)))
+
+-- ---- what is accepted: the powers of two whose exponent is 12 to 16
+
+pub record Exponent (s k : ℕ) : Type 0 where
+  pub least : leastShift ≤ k
+  pub most : k ≤ mostShift
+  pub power : s ≡ 2 ^ k
+
+-- the exponent is the number of trailing zeros, and no other is
+pub exponent-zeros : {s k : ℕ} → Exponent s k → trailingZeros 64 s ≡ k
+exponent-zeros {s} {k} x = rw (x .power) (power-zeros 64 k (omega (arith, x .most)))
+
+pub says-accepted : (s : ℕ) → Says (Exponent s (trailingZeros 64 s)) (acceptedSize s)
 unfolding acceptedSize
-says-accepted s = says-either (says-eqb s 4096) (says-either (says-eqb s 16384) (says-eqb s 65536))
+says-accepted s =
+    says-map to from (says-both (says-eqb (ones s) 1) (says-both (says-leb leastShift (trailingZeros 64 s)) (says-leb (trailingZeros 64 s) mostShift)))
+  where
+    to : (ones s ≡ 1) × ((leastShift ≤ trailingZeros 64 s) × (trailingZeros 64 s ≤ mostShift)) → Exponent s (trailingZeros 64 s)
+    to h = record { least = h .1 .0; most = h .1 .1; power = one-set 64 s (h .0) (omega (arith, h .1 .1)) }
+
+    from : Exponent s (trailingZeros 64 s) → (ones s ≡ 1) × ((leastShift ≤ trailingZeros 64 s) × (trailingZeros 64 s ≤ mostShift))
+    from x = (ap ones (x .power) ∙ power-ones (trailingZeros 64 s), (x .least, x .most))
+
+pub accepted-exponent : (s : ℕ) → acceptedSize s ≡ true → Exponent s (trailingZeros 64 s)
+accepted-exponent s e = says-true (says-accepted s) e
+
+pub exponent-accepted : (k : ℕ) → leastShift ≤ k → k ≤ mostShift → acceptedSize (2 ^ k) ≡ true
+exponent-accepted k l m =
+    let x : Exponent (2 ^ k) k = record { least = l; most = m; power = refl } in
+    true-says (says-accepted (2 ^ k)) (rw (exponent-zeros x) x)
 
 -- an accepted size lies between the least and the greatest
 pub accepted-bounds : (s : ℕ) → acceptedSize s ≡ true → (4096 ≤ s) × (s ≤ 65536)
-accepted-bounds s e = go (says-true (says-accepted s) e)
-  where
-    go : (s ≡ 4096) ⊎ ((s ≡ 16384) ⊎ (s ≡ 65536)) → (4096 ≤ s) × (s ≤ 65536)
-    go (inl h) = (omega arith, omega arith)
-    go (inr (inl h)) = (omega arith, omega arith)
-    go (inr (inr h)) = (omega arith, omega arith)
+accepted-bounds s e =
+    let x = accepted-exponent s e in
+    let l : 2 ^ leastShift ≤ 2 ^ trailingZeros 64 s = pow-mono (x .least) in
+    let m : 2 ^ trailingZeros 64 s ≤ 2 ^ mostShift = pow-mono (x .most) in
+    (omega (arith, x .power), omega (arith, x .power))
 
 -- ---- a size set
 

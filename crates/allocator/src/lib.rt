@@ -25,19 +25,26 @@ const MAX_PTR: usize = 24;
 
 const FIRST_PTR: usize = 128;
 
+// The exponents of the least and the greatest chunk size.
+const LEAST_SHIFT: u32 = 12;
+
+const MOST_SHIFT: u32 = 16;
+
 pub enum Popped {
     Pointer(u64),
     Nothing,
 }
 
-// Whether a chunk size is one of those offered.
+// Whether a chunk size is one of those offered: its one bit set and the zeros behind it decide.
 pub fn accepted(span: u64) -> bool
     ensures { λ r. ⌜ r ≡ acceptedSize span ⌝ }
 {
-    match span {
-        4096 => true,
-        16384 => true,
-        65536 => true,
+    if u64::count_ones(span) != 1 {
+        return false;
+    }
+    let shift = u64::trailing_zeros(span);
+    match shift {
+        LEAST_SHIFT..=MOST_SHIFT => true,
         _ => false,
     }
 }

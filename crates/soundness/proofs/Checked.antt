@@ -7,14 +7,12 @@ use Prim.Native.Nat.{ℕ, _+_, _*_, _≤_, _<_}
 use native.Mathlib.Omega.{arith}
 use lib.ListN.{length}
 use denote.Enum.Declared.{tagOf}
-use Rattle.words.specs.Bytes.{word, Bytes}
+use Rattle.words.specs.Bytes.{Bytes}
 use Rattle.words.specs.Tables.{Asc}
-use Rattle.words.proofs.Numbers.{num-part}
 use Rattle.words.specs.Rules.{Says}
 use Rattle.words.proofs.Rules.{says-map, says-both, says-and, says-true, true-says}
-use Rattle.allocator.specs.Allocator.{free, readAllocator}
+use Rattle.allocator.specs.Allocator.{free}
 use Rattle.allocator.proofs.Sizes.{accepted-bounds}
-use Rattle.volume.specs.Header.{atChunkRoom, atChunkSize}
 use Rattle.volume.specs.declared.Layout.{Layout}
 use Rattle.volume.specs.declared.Place.{Place}
 use Rattle.volume.specs.declared.Place.the-variants.{At}
@@ -25,6 +23,7 @@ use Rattle.volume.specs.Sound.{nodeBefore, entryBefore, Named, Stored, Good, So
 use Rattle.volume.proofs.Place.{the-type}
 use Rattle.volume.proofs.GeometryRules.{place-fails, place-passes, place-layout}
 use Rattle.volume.proofs.Laid.{framed-formed}
+use Rattle.volume.proofs.SoundWords.{size-accepted}
 use Rattle.tables.specs.Tables.{Ready}
 use Rattle.soundness.specs.Checked.{ordered, numbered, related, named, stored, good, sound, placeIfSound}
 use Rattle.soundness.proofs.FrameRules.{says-framed}
@@ -79,8 +78,7 @@ says-good v pos room =
 -- ---- of bytes
 
 size-there : (l : List ℕ) → Framed l → 0 < shown l .store .allocator .chunkSize
-unfolding shown readAllocator
-size-there l f = omega (arith, num-part 8 l 64 (128 + 8 * word l atChunkRoom) 8 (omega arith), accepted-bounds (word l atChunkSize) (f .marked .size))
+size-there l f = omega (arith, accepted-bounds (shown l .store .allocator .chunkSize) (size-accepted l f))
 
 pub room-there : (l : List ℕ) → Framed l → shown l .store .chunkRoom ≤ 4096
 unfolding shown

@@ -1,4 +1,4 @@
--- The allocator's words of a sound volume: they can be opened by themselves, and open leaves them.
+-- The allocator's words of a sound volume: their chunk size is accepted, they can be opened by themselves, and open leaves them.
 -- Assumes nothing.
 use mathlib.Core.Path.{_≡_, _∙_}
 use mathlib.Core.Bool.{true}
@@ -15,18 +15,24 @@ use Rattle.allocator.specs.Opening.{openable, opened}
 use Rattle.allocator.proofs.OpenWords.{words-openable, words-opened}
 use Rattle.volume.specs.Header.{atChunkRoom}
 use Rattle.volume.specs.Volume.{shown, atAllocator, allocatorSize, wordsIn}
+use Rattle.volume.specs.Framed.{Framed}
 use Rattle.volume.specs.Sound.{Sound}
 use Rattle.volume.proofs.Laid.{allocator-formed}
 
-module _ (l : List ℕ) (s : Sound l) where
-  word-in : (at : ℕ) → at + 8 ≤ 128 → word (wordsIn l) at ≡ word l (atAllocator + at)
-  word-in at h = num-part 8 l atAllocator (allocatorSize (word l atChunkRoom)) at (omega arith)
+word-in : (l : List ℕ) (at : ℕ) → at + 8 ≤ 128 → word (wordsIn l) at ≡ word l (atAllocator + at)
+word-in l at h = num-part 8 l atAllocator (allocatorSize (word l atChunkRoom)) at (omega arith)
 
+-- the chunk size that framed bytes show
+pub size-accepted : (l : List ℕ) → Framed l → acceptedSize (shown l .store .allocator .chunkSize) ≡ true
+unfolding shown readAllocator
+size-accepted l f = rw (word-in l 8 (omega arith)) (f .marked .size)
+
+module _ (l : List ℕ) (s : Sound l) where
   mark : word (wordsIn l) 0 ≡ marker
-  mark = word-in 0 (omega arith) ∙ s .framed .marked .mark
+  mark = word-in l 0 (omega arith) ∙ s .framed .marked .mark
 
   size : acceptedSize (word (wordsIn l) 8) ≡ true
-  size = rw (word-in 8 (omega arith)) (s .framed .marked .size)
+  size = unfold shown readAllocator in size-accepted l (s .framed)
 
   lined : word (wordsIn l) 24 % word (wordsIn l) 8 ≡ 0
   lined = unfold shown readAllocator in s .good .stored .lined

@@ -8,6 +8,7 @@ pub mod Order
 pub mod Places
 pub mod Counting
 pub mod Multiples
+pub mod Powers
 pub mod Tables
 pub mod Pieces
 pub mod Areas
