@@ -85,10 +85,12 @@ static void make_a_volume(void)
     report();
 }
 
-/* Until the first chunk is given out, another chunk size may be set: small ones waste less, large ones need fewer rows. */
+/* Until the first chunk is given out, another chunk size may be set, one of five: 4,096, 8,192, 16,384, 32,768 or 65,536. Small ones waste
+   less at the ends of what is written, large ones need fewer rows. */
 static void choose_a_chunk_size(void)
 {
-    done("set chunk size ", "65536", lentilraft_set_chunk_size(volume, LENGTH, 65536));
+    done("set chunk size ", "32768", lentilraft_set_chunk_size(volume, LENGTH, 32768));
+    done("set chunk size ", "12288", lentilraft_set_chunk_size(volume, LENGTH, 12288));
     done("set chunk size ", "4096", lentilraft_set_chunk_size(volume, LENGTH, CHUNK_SIZE));
 }
 

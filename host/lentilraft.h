@@ -50,7 +50,7 @@ enum lentilraft_expected {
 };
 
 /* Makes a volume of all of a memory, whatever it held, with room for so many nodes, entries and chunks (1 to 4,096 each) and a chunk size of
-   4,096, 16,384 or 65,536. The memory needs 65,728 + 40 nodes + 280 entries + 32 chunks bytes, and may have more.
+   4,096, 8,192, 16,384, 32,768 or 65,536. The memory needs 65,728 + 40 nodes + 280 entries + 32 chunks bytes, and may have more.
    13: geometry, length or chunk size. */
 uint32_t lentilraft_new_volume(uint8_t *volume, size_t length, uint64_t nodes, uint64_t entries, uint64_t chunks, uint64_t chunk_size);
 
@@ -61,7 +61,7 @@ uint32_t lentilraft_check(const uint8_t *volume, size_t length);
    13: under 128 bytes. 1: words that no allocator left. */
 uint32_t lentilraft_open_allocator(uint8_t *words, size_t length);
 
-/* Sets the chunk size. 1: unsound memory. 13: not accepted, or another than now after a chunk was given out. */
+/* Sets the chunk size, one that new volume takes. 1: unsound memory. 13: no such size, or another than now after a chunk was given out. */
 uint32_t lentilraft_set_chunk_size(uint8_t *volume, size_t length, uint64_t chunk_size);
 
 /* Reads bytes of a file from an offset on, and tells how many: as many as the buffer has, or as the file has behind the offset. Bytes that were

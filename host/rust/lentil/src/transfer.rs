@@ -188,7 +188,16 @@ pub fn content(volume: &Volume, node: Node, size: u64) -> Result<Vec<u8>> {
 
 #[cfg(test)]
 mod tests {
+    use lentilraft::ChunkSize;
+
     use super::*;
+
+    #[test]
+    fn a_piece_is_whole_chunks() {
+        for size in ChunkSize::ALL {
+            assert_eq!(PIECE as u64 % size.bytes(), 0);
+        }
+    }
 
     #[test]
     fn runs_are_whole_spans_that_are_not_zero() {

@@ -40,6 +40,44 @@ fn new_takes_rooms_and_chunk_size() {
 }
 
 #[test]
+fn each_chunk_size_keeps_what_was_put() {
+    let place = Place::new("chunk_sizes");
+    for shift in 12..=16 {
+        keeps_what_was_put(&place, shift);
+    }
+}
+
+/// Bytes behind a gap, on a volume with chunks of 2^shift bytes, read back; cut and extended again.
+fn keeps_what_was_put(place: &Place, shift: u64) {
+    let span = 1 << shift;
+    let (volume, gap) = (&format!("{}k", span >> 10), 3 * span + 777);
+    let mut bytes = vec![0; gap];
+    bytes.extend(noise(shift, span));
+    place
+        .run(["new", volume, "--chunks", "8", "--chunk-size", volume])
+        .done();
+    let at = gap.to_string();
+    place
+        .feed(&["put", volume, "a", "--at", &at], &bytes[gap..])
+        .done();
+    assert!(place.run(["get", volume, "a"]).done() == bytes);
+    for size in [gap + 5, bytes.len()] {
+        place.run(["cut", volume, "a", &size.to_string()]).done();
+    }
+    bytes[gap + 5..].fill(0);
+    assert!(place.run(["get", volume, "a"]).done() == bytes);
+    assert_eq!(place.run(["check", volume]).text(), "sound\n");
+    let report = format!(
+        "format=1\nchunk_size={}\nchunk_shift={}\nnodes=2\nentries=1\nchunks=1\n\
+         free=1\nnext_ptr={}\nnext_node=2\n",
+        span,
+        shift,
+        2 * span
+    );
+    assert_eq!(place.run(["report", volume]).text(), report);
+}
+
+#[test]
 fn new_replaces_with_force_alone() {
     let place = Place::new("new_force");
     place.make_file("v", b"a letter");

@@ -98,10 +98,6 @@ fn volumes_that_cannot_be_are_not_made() {
             (&["new", "w", "--entries", "4097"], "--entries is 1 to 4096"),
             (&["new", "w", "--chunks", "4097"], "--chunks is 1 to 4096"),
             (
-                &["new", "w", "--chunk-size", "8k"],
-                "--chunk-size is 4k, 16k or 64k",
-            ),
-            (
                 &["new", "w", "--size", "64k"],
                 "--size is at least 70880 for such a volume, not 65536",
             ),
@@ -113,6 +109,20 @@ fn volumes_that_cannot_be_are_not_made() {
                 &["new", "w", "--size", "16777216G"],
                 "--size is at most 269877440 for such",
             ),
+        ],
+    );
+}
+
+#[test]
+fn other_chunk_sizes_are_refused() {
+    let reason = "--chunk-size is 4k, 8k, 16k, 32k or 64k";
+    are_misused(
+        "usage_chunk_size",
+        &[
+            (&["new", "w", "--chunk-size", "0"], reason),
+            (&["new", "w", "--chunk-size", "2k"], reason),
+            (&["new", "w", "--chunk-size", "12k"], reason),
+            (&["new", "w", "--chunk-size", "128k"], reason),
         ],
     );
 }

@@ -276,14 +276,13 @@ mod tests {
     #[test]
     fn another_chunk_size_is_refused() {
         let mut volume = volume();
-        assert_eq!(
-            set_chunk_size(&mut volume, 8192),
-            Err(Error::InvalidArgument)
-        );
-        assert_eq!(
-            new_volume(&mut volume, 1, 1, 1, 8192),
-            Err(Error::InvalidArgument)
-        );
+        let before = volume.clone();
+        for size in [0, 2048, 12_288, 131_072, (1 << 32) + 4096, u64::MAX] {
+            let refused = Err(Error::InvalidArgument);
+            assert_eq!(set_chunk_size(&mut volume, size), refused, "{}", size);
+            assert_eq!(new_volume(&mut volume, 1, 1, 1, size), refused, "{}", size);
+        }
+        assert!(volume == before);
     }
 
     #[test]

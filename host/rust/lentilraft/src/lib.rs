@@ -23,8 +23,8 @@
 //!
 //! # fn main() -> lentilraft::Result<()> {
 //! let rooms = Rooms { nodes: 16, entries: 16, chunks: 16 };
-//! let memory = vec![0; rooms.length_for(ChunkSize::Small) as usize];
-//! let mut volume = Volume::new(memory, rooms, ChunkSize::Small)?;
+//! let memory = vec![0; rooms.length_for(ChunkSize::K4) as usize];
+//! let mut volume = Volume::new(memory, rooms, ChunkSize::K4)?;
 //!
 //! let traces = volume.create(ROOT, b"traces", Kind::Directory)?;
 //! let file = volume.create(traces, b"hood-7", Kind::File)?;
@@ -39,8 +39,8 @@
 //! # use lentilraft::{ChunkSize, Kind, Rooms, Stretch, Volume, ROOT};
 //! # fn main() -> lentilraft::Result<()> {
 //! # let rooms = Rooms { nodes: 16, entries: 16, chunks: 16 };
-//! # let memory = vec![0; rooms.length_for(ChunkSize::Small) as usize];
-//! # let mut volume = Volume::new(memory, rooms, ChunkSize::Small)?;
+//! # let memory = vec![0; rooms.length_for(ChunkSize::K4) as usize];
+//! # let mut volume = Volume::new(memory, rooms, ChunkSize::K4)?;
 //! # let file = volume.create(ROOT, b"hood-7", Kind::File)?;
 //! volume.write(file, 1_000_000, b"0.52 m/s")?;
 //!
@@ -63,8 +63,8 @@
 //! # use lentilraft::{ChunkSize, Kind, Rooms, Volume, ROOT};
 //! # fn main() -> lentilraft::Result<()> {
 //! # let rooms = Rooms { nodes: 16, entries: 16, chunks: 16 };
-//! # let memory = vec![0; rooms.length_for(ChunkSize::Small) as usize];
-//! # let mut volume = Volume::new(memory, rooms, ChunkSize::Small)?;
+//! # let memory = vec![0; rooms.length_for(ChunkSize::K4) as usize];
+//! # let mut volume = Volume::new(memory, rooms, ChunkSize::K4)?;
 //! # volume.create(ROOT, b"hood-7", Kind::File)?;
 //! # volume.create(ROOT, b"hood-8", Kind::File)?;
 //! for entry in volume.entries(ROOT) {
@@ -83,8 +83,8 @@
 //! # use lentilraft::{ChunkSize, Kind, Rooms, Volume, ROOT};
 //! # fn main() -> lentilraft::Result<()> {
 //! # let rooms = Rooms { nodes: 16, entries: 16, chunks: 16 };
-//! # let memory = vec![0; rooms.length_for(ChunkSize::Small) as usize];
-//! # let mut volume = Volume::new(memory, rooms, ChunkSize::Small)?;
+//! # let memory = vec![0; rooms.length_for(ChunkSize::K4) as usize];
+//! # let mut volume = Volume::new(memory, rooms, ChunkSize::K4)?;
 //! # volume.create(ROOT, b"hood-7", Kind::File)?;
 //! use lentilraft::Error;
 //!

@@ -42,19 +42,33 @@ pub enum Expected {
     File = 2,
 }
 
-/// How many bytes a chunk has. Files take room by whole chunks.
+/// How many bytes a chunk has. Files take room by whole chunks: small ones waste less where a
+/// traverse begins and ends, large ones need fewer rows for as many bytes.
 #[derive(Clone, Copy, Debug, PartialEq, Eq, PartialOrd, Ord, Hash)]
 #[repr(u64)]
 pub enum ChunkSize {
     /// 4,096 bytes.
-    Small = 4096,
+    K4 = 4096,
+    /// 8,192 bytes.
+    K8 = 8192,
     /// 16,384 bytes.
-    Medium = 16384,
+    K16 = 16384,
+    /// 32,768 bytes.
+    K32 = 32768,
     /// 65,536 bytes.
-    Large = 65536,
+    K64 = 65536,
 }
 
 impl ChunkSize {
+    /// Every size, ascending.
+    pub const ALL: [ChunkSize; 5] = [
+        ChunkSize::K4,
+        ChunkSize::K8,
+        ChunkSize::K16,
+        ChunkSize::K32,
+        ChunkSize::K64,
+    ];
+
     /// The size in bytes.
     pub fn bytes(self) -> u64 {
         self as u64
@@ -66,12 +80,9 @@ impl TryFrom<u64> for ChunkSize {
 
     /// The chunk size of so many bytes; any other number is an [`Error::InvalidArgument`].
     fn try_from(bytes: u64) -> Result<ChunkSize> {
-        match bytes {
-            4096 => Ok(ChunkSize::Small),
-            16384 => Ok(ChunkSize::Medium),
-            65536 => Ok(ChunkSize::Large),
-            _ => Err(Error::InvalidArgument),
-        }
+        let mut sizes = ChunkSize::ALL.into_iter();
+        let found = sizes.find(|size| size.bytes() == bytes);
+        found.ok_or(Error::InvalidArgument)
     }
 }
 

@@ -177,11 +177,11 @@ impl<B: AsRef<[u8]> + AsMut<[u8]>> Volume<B> {
     ///
     /// let rooms = Rooms { nodes: 1, entries: 1, chunks: 1 };
     /// let mut memory = vec![7; rooms.least_length() as usize - 1];
-    /// let refused = Volume::new(&mut memory[..], rooms, ChunkSize::Small);
+    /// let refused = Volume::new(&mut memory[..], rooms, ChunkSize::K4);
     /// assert_eq!(refused.unwrap_err(), Error::InvalidArgument);
     ///
     /// memory.push(7);
-    /// let volume = Volume::new(memory, rooms, ChunkSize::Small)?;
+    /// let volume = Volume::new(memory, rooms, ChunkSize::K4)?;
     /// assert_eq!(volume.check(), Ok(()));
     /// # Ok::<(), Error>(())
     /// ```
@@ -300,7 +300,7 @@ impl<B: AsRef<[u8]> + AsMut<[u8]>> Volume<B> {
     ///
     /// # let rooms = Rooms { nodes: 4, entries: 4, chunks: 4 };
     /// # let memory = vec![0; rooms.least_length() as usize];
-    /// # let mut volume = Volume::new(memory, rooms, ChunkSize::Small)?;
+    /// # let mut volume = Volume::new(memory, rooms, ChunkSize::K4)?;
     /// let file = volume.create(ROOT, b"hood-7", Kind::File)?;
     /// assert_eq!(volume.remove(file), Err(Error::Busy));
     ///

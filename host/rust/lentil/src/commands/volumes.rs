@@ -27,7 +27,7 @@ pub const NEW: Command = Command {
         ),
         option("--entries", "COUNT", "room for names"),
         option("--chunks", "COUNT", "room for chunks of files"),
-        option("--chunk-size", "SIZE", "4k, 16k or 64k"),
+        option("--chunk-size", "SIZE", CHUNK_SIZES),
         flag("--force", "replace what is there, whatever it is"),
     ],
     details: "\
@@ -63,13 +63,12 @@ that was never used, and the next node's number.",
 };
 
 const DEFAULT_SIZE: u64 = 64 << 20;
-const DEFAULT_CHUNK_SIZE: ChunkSize = ChunkSize::Medium;
+const DEFAULT_CHUNK_SIZE: ChunkSize = ChunkSize::K16;
+const CHUNK_SIZES: &str = "4k, 8k, 16k, 32k or 64k";
 const GREATEST_ROOM: u64 = 4096;
 
 /// Small volumes get room for so many nodes and entries, also where they have fewer chunks.
 const LEAST_ROOM: u64 = 16;
-
-const CHUNK_SIZES: [ChunkSize; 3] = [ChunkSize::Small, ChunkSize::Medium, ChunkSize::Large];
 
 fn new(arguments: &Arguments) -> Outcome<()> {
     let wish = Wish::of(arguments)?;
@@ -142,13 +141,11 @@ impl Wish {
 
     /// As many chunks as go into the size, and the smallest that can use it up.
     fn plan_by_size(&self, length: u64) -> Outcome<Plan> {
-        let most = |size: &ChunkSize| self.rooms(GREATEST_ROOM).length_for(*size);
-        let enough = CHUNK_SIZES.iter().find(|size| most(size) >= length);
-        let chunk_size = self
-            .chunk_size
-            .or(enough.copied())
-            .unwrap_or(ChunkSize::Large);
-        demand_size(length, self.rooms(1).least_length(), most(&chunk_size))?;
+        let most = |size: ChunkSize| self.rooms(GREATEST_ROOM).length_for(size);
+        let mut sizes = ChunkSize::ALL.into_iter();
+        let enough = sizes.find(|size| most(*size) >= length);
+        let chunk_size = self.chunk_size.or(enough).unwrap_or(ChunkSize::K64);
+        demand_size(length, self.rooms(1).least_length(), most(chunk_size))?;
         let fits = |chunks: &u64| self.rooms(*chunks).length_for(chunk_size) <= length;
         let chunks = (1..=GREATEST_ROOM).rev().find(fits).unwrap_or(1);
         Ok(Plan {
@@ -195,7 +192,7 @@ fn room(arguments: &Arguments, switch: &str) -> Outcome<Option<u64>> {
 fn chunk_size(arguments: &Arguments) -> Outcome<Option<ChunkSize>> {
     let bytes = arguments.size("--chunk-size")?;
     let size = bytes.map(ChunkSize::try_from).transpose();
-    size.map_err(|_| Failure::usage("--chunk-size is 4k, 16k or 64k"))
+    size.map_err(|_| Failure::usage(format!("--chunk-size is {}", CHUNK_SIZES)))
 }
 
 #[cfg(test)]
@@ -218,14 +215,35 @@ mod tests {
 
     #[test]
     fn the_smallest_chunks_that_use_a_size_are_taken() {
-        assert_eq!(by_size(16 << 20).chunk_size, ChunkSize::Small);
-        assert_eq!(by_size(64 << 20).chunk_size, ChunkSize::Medium);
-        assert_eq!(by_size(256 << 20).chunk_size, ChunkSize::Large);
+        assert_eq!(by_size(16 << 20).chunk_size, ChunkSize::K4);
+        assert_eq!(by_size(32 << 20).chunk_size, ChunkSize::K8);
+        assert_eq!(by_size(64 << 20).chunk_size, ChunkSize::K16);
+        assert_eq!(by_size(128 << 20).chunk_size, ChunkSize::K32);
+        assert_eq!(by_size(256 << 20).chunk_size, ChunkSize::K64);
+    }
+
+    #[test]
+    fn the_next_chunk_size_is_taken_where_one_ends() {
+        let rooms = wish(None, None).rooms(GREATEST_ROOM);
+        for pair in ChunkSize::ALL.windows(2) {
+            let most = rooms.length_for(pair[0]);
+            assert_eq!(by_size(most).chunk_size, pair[0]);
+            assert_eq!(by_size(most + 1).chunk_size, pair[1]);
+        }
+    }
+
+    #[test]
+    fn the_help_names_every_chunk_size() {
+        let listed = CHUNK_SIZES.replace(" or", ",");
+        let named: Vec<&str> = listed.split(", ").collect();
+        let sizes = ChunkSize::ALL.map(|size| text::short_size(size.bytes()));
+        assert_eq!(named, sizes);
     }
 
     #[test]
     fn all_chunks_of_a_size_can_be_in_use() {
-        for size in [80_000, 1 << 20, 16 << 20, 64 << 20, 250 << 20] {
+        let sizes = [1, 16, 30, 64, 120, 250].map(|size| size << 20);
+        for size in sizes.into_iter().chain([80_000]) {
             let plan = by_size(size);
             assert_eq!(plan.length, size);
             assert!(plan.rooms.length_for(plan.chunk_size) <= size);
@@ -263,8 +281,8 @@ mod tests {
             plan,
             Plan {
                 rooms,
-                chunk_size: ChunkSize::Medium,
-                length: rooms.length_for(ChunkSize::Medium)
+                chunk_size: ChunkSize::K16,
+                length: rooms.length_for(ChunkSize::K16)
             }
         );
     }

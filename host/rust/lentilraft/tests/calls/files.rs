@@ -66,7 +66,7 @@ fn a_refused_read_leaves_the_buffer() {
 
 #[test]
 fn a_symbolic_link_has_bytes() {
-    let mut volume = new_volume(ChunkSize::Small);
+    let mut volume = new_volume(ChunkSize::K4);
     let link = volume.create(ROOT, b"newest", Kind::SymbolicLink).unwrap();
     assert_eq!(volume.write(link, 0, b"traces/hood-7"), Ok(13));
     assert_eq!(content(&volume, link, 0, 100), b"traces/hood-7");
@@ -130,7 +130,7 @@ fn chunks_are_counted_before_the_first_is_taken() {
 #[test]
 fn a_short_memory_has_fewer_chunks_than_rooms() {
     let bytes = vec![0; ROOMS.least_length() as usize];
-    let mut volume = lentilraft::Volume::new(bytes, ROOMS, ChunkSize::Medium).unwrap();
+    let mut volume = lentilraft::Volume::new(bytes, ROOMS, ChunkSize::K16).unwrap();
     let file = volume.create(ROOT, b"f", Kind::File).unwrap();
     assert_eq!(volume.write(file, 0, &[1; 65536]), Ok(65536));
     assert_eq!(
@@ -228,19 +228,22 @@ fn set_limit_is_refused() {
     assert_eq!(volume.set_limit(file, Some(GREATEST)), Ok(()));
 }
 
-/// The boundary table of the scope, rows P1 to P3.
+/// The boundary table of the scope, rows P1 to P3, for each chunk size.
 #[test]
 fn three_bytes_across_a_boundary() {
-    let mut volume = new_volume(ChunkSize::Medium);
-    let file = volume.create(ROOT, b"f", Kind::File).unwrap();
-    assert_eq!(volume.write(file, 16_383, b"abc"), Ok(3));
-    assert_eq!(volume.node(file).unwrap().size, 16_386);
-    assert_eq!(reported(&volume, "next_ptr"), 32_768);
-    volume.resize(file, 16_383).unwrap();
-    assert_eq!(
-        (reported(&volume, "chunks"), reported(&volume, "free")),
-        (1, 1)
-    );
-    volume.resize(file, 16_386).unwrap();
-    assert_eq!(content(&volume, file, 16_383, 9), [0, 0, 0]);
+    for size in ChunkSize::ALL {
+        let span = size.bytes();
+        let mut volume = new_volume(size);
+        let file = volume.create(ROOT, b"f", Kind::File).unwrap();
+        assert_eq!(volume.write(file, span - 1, b"abc"), Ok(3));
+        assert_eq!(volume.node(file).unwrap().size, span + 2);
+        assert_eq!(reported(&volume, "next_ptr"), 2 * span);
+        volume.resize(file, span - 1).unwrap();
+        assert_eq!(
+            (reported(&volume, "chunks"), reported(&volume, "free")),
+            (1, 1)
+        );
+        volume.resize(file, span + 2).unwrap();
+        assert_eq!(content(&volume, file, span - 1, 9), [0, 0, 0]);
+    }
 }

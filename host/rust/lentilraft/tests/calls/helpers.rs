@@ -15,9 +15,13 @@ pub const ROOMS: Rooms = Rooms {
 /// A node that no volume of the tests has.
 pub const MISSING: Node = Node(77);
 
-/// Where words of the header stand that tests change.
-pub const FREE_COUNT: usize = 80;
+/// Numbers of bytes that no chunk has: a bit too far down or up, two bits, and all of them.
+pub const NO_CHUNK_SIZES: [u64; 5] = [2048, 131_072, 12_288, (1 << 32) + 4096, u64::MAX];
+
+/// Where words of the header and of the allocator stand that tests change.
 pub const NEXT_NODE: usize = 56;
+pub const CHUNK_SIZE: usize = 72;
+pub const FREE_COUNT: usize = 80;
 /// Where the free pointers stand.
 pub const FREE_WORDS: usize = 192;
 /// Where the tables of a volume with `ROOMS` stand.
@@ -34,9 +38,9 @@ pub fn new_volume(size: ChunkSize) -> Owned {
     Volume::new(bytes, ROOMS, size).expect("a new volume")
 }
 
-/// A new volume with small chunks and one file in its root.
+/// A new volume with the smallest chunks and one file in its root.
 pub fn with_file() -> (Owned, Node) {
-    let mut volume = new_volume(ChunkSize::Small);
+    let mut volume = new_volume(ChunkSize::K4);
     let file = volume.create(ROOT, b"hood-7", Kind::File).expect("a file");
     (volume, file)
 }

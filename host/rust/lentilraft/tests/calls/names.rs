@@ -9,7 +9,7 @@ use crate::helpers::{
 
 /// A folder with two files in it.
 fn with_folder() -> (Owned, Node) {
-    let mut volume = new_volume(ChunkSize::Small);
+    let mut volume = new_volume(ChunkSize::K4);
     let folder = volume.create(ROOT, b"traces", Kind::Directory).unwrap();
     volume.create(folder, b"hood-7", Kind::File).unwrap();
     volume.create(folder, b"hood-8", Kind::File).unwrap();
@@ -18,7 +18,7 @@ fn with_folder() -> (Owned, Node) {
 
 /// A folder that has no name any more.
 fn with_nameless_folder() -> (Owned, Node) {
-    let mut volume = new_volume(ChunkSize::Small);
+    let mut volume = new_volume(ChunkSize::K4);
     let folder = volume.create(ROOT, b"old", Kind::Directory).unwrap();
     volume.unlink(ROOT, b"old", Expected::Directory, 0).unwrap();
     (volume, folder)
@@ -38,7 +38,7 @@ fn names(volume: &Owned, directory: Node) -> Vec<Vec<u8>> {
 
 #[test]
 fn nodes_are_numbered_in_turn() {
-    let mut volume = new_volume(ChunkSize::Small);
+    let mut volume = new_volume(ChunkSize::K4);
     for (number, kind) in [Kind::Directory, Kind::File, Kind::SymbolicLink]
         .into_iter()
         .enumerate()
@@ -92,7 +92,7 @@ fn nothing_is_made_in_a_nameless_folder() {
 
 #[test]
 fn any_other_bytes_are_a_name() {
-    let mut volume = new_volume(ChunkSize::Small);
+    let mut volume = new_volume(ChunkSize::K4);
     let longest = [0xff; 255];
     for name in [&b"..."[..], b".a", b" ", b"\0", b"\xc3\x28", &longest] {
         let node = volume.create(ROOT, name, Kind::File).unwrap();
@@ -343,7 +343,7 @@ fn entries_come_in_the_order_of_their_indexes() {
 
 #[test]
 fn an_empty_directory_has_no_entries() {
-    let volume = new_volume(ChunkSize::Small);
+    let volume = new_volume(ChunkSize::K4);
     assert_eq!(volume.entries(ROOT).count(), 0);
     let (volume, folder) = with_nameless_folder();
     assert_eq!(volume.entries(folder).count(), 0);

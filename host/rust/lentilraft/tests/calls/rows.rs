@@ -14,7 +14,7 @@ fn the_root_of_a_new_volume() {
         size: 0,
         limit: None,
     };
-    assert_eq!(new_volume(ChunkSize::Small).node(ROOT), Ok(wanted));
+    assert_eq!(new_volume(ChunkSize::K4).node(ROOT), Ok(wanted));
 }
 
 #[test]
@@ -89,20 +89,22 @@ fn a_hole_at_the_end_is_not_written() {
 fn the_geometry_of_a_new_volume() {
     let mut used = ROOMS;
     (used.nodes, used.entries, used.chunks) = (1, 0, 0);
-    let wanted = Geometry {
-        rooms: ROOMS,
-        chunk_size: ChunkSize::Large,
-        used,
-        next_node: 1,
-        free_chunks: 8,
-    };
-    assert_eq!(new_volume(ChunkSize::Large).geometry(), Ok(wanted));
+    for chunk_size in ChunkSize::ALL {
+        let wanted = Geometry {
+            rooms: ROOMS,
+            chunk_size,
+            used,
+            next_node: 1,
+            free_chunks: 8,
+        };
+        assert_eq!(new_volume(chunk_size).geometry(), Ok(wanted));
+    }
 }
 
 #[test]
 fn a_chunk_that_was_freed_is_free() {
     let bytes = vec![0; ROOMS.least_length() as usize];
-    let mut volume = Volume::new(bytes, ROOMS, ChunkSize::Medium).unwrap();
+    let mut volume = Volume::new(bytes, ROOMS, ChunkSize::K16).unwrap();
     let file = volume.create(ROOT, b"f", Kind::File).unwrap();
     let free = |volume: &Owned| volume.geometry().unwrap().free_chunks;
     assert_eq!(free(&volume), 4);
@@ -159,13 +161,15 @@ fn step(volume: &mut Owned, chance: &mut Chance) {
     };
 }
 
-/// A volume that runs out of rows for chunks first, or one that runs out of memory for them first.
+/// A volume of each chunk size in turn: one that runs out of rows for chunks first, or one with the
+/// least memory, which runs out of that first if its chunks are large.
 fn volume_by(seed: u64) -> Owned {
+    let size = ChunkSize::ALL[seed as usize % ChunkSize::ALL.len()];
     if seed % 2 == 0 {
-        return new_volume(ChunkSize::Small);
+        return new_volume(size);
     }
     let bytes = vec![0; ROOMS.least_length() as usize];
-    Volume::new(bytes, ROOMS, ChunkSize::Medium).unwrap()
+    Volume::new(bytes, ROOMS, size).unwrap()
 }
 
 #[test]

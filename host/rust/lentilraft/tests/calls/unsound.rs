@@ -4,8 +4,8 @@
 use lentilraft::{ChunkSize, Error, Expected, Kind, Node, Result, Rooms, Volume, ROOT};
 
 use crate::helpers::{
-    new_volume, refusal, with_bytes, Owned, CHUNK_AREA, CHUNK_ROWS, ENTRY_ROWS, FREE_COUNT,
-    FREE_WORDS, NODE_ROWS, ROOMS,
+    new_volume, refusal, with_bytes, Owned, CHUNK_AREA, CHUNK_ROWS, CHUNK_SIZE, ENTRY_ROWS,
+    FREE_COUNT, FREE_WORDS, NODE_ROWS, NO_CHUNK_SIZES, ROOMS,
 };
 
 const FILE: Node = Node(1);
@@ -34,7 +34,7 @@ const CALLS: [(&str, Call); 18] = [
     ("node", |v| v.node(FILE).map(drop)),
     ("written", |v| v.written(FILE).map(drop)),
     ("geometry", |v| v.geometry().map(drop)),
-    ("set_chunk_size", |v| v.set_chunk_size(ChunkSize::Small)),
+    ("set_chunk_size", |v| v.set_chunk_size(ChunkSize::K4)),
     ("write", |v| v.write(FILE, 0, b"x").map(drop)),
     ("resize", |v| v.resize(FILE, 2)),
     ("set_limit", |v| v.set_limit(FILE, Some(9000))),
@@ -55,7 +55,7 @@ const PLACES: [(&str, usize); 14] = [
     ("entries used", 40),
     ("chunks used", 48),
     ("the marker", 64),
-    ("the chunk size", 72),
+    ("the chunk size", CHUNK_SIZE),
     ("the free count", FREE_COUNT),
     ("the root's kind", NODE_ROWS + 8),
     ("the file's links", NODE_ROWS + 40 + 16),
@@ -67,7 +67,7 @@ const PLACES: [(&str, usize); 14] = [
 
 /// A root with a file of one chunk, and a file without a name.
 fn sound() -> Owned {
-    let mut volume = new_volume(ChunkSize::Small);
+    let mut volume = new_volume(ChunkSize::K4);
     assert_eq!(volume.create(ROOT, b"f", Kind::File), Ok(FILE));
     volume.write(FILE, 0, b"0.52").unwrap();
     let nameless = volume.create(ROOT, b"g", Kind::File).unwrap();
@@ -96,6 +96,25 @@ fn every_call_refuses_every_broken_byte() {
     }
 }
 
+/// A volume that has given no chunk out, with a number in the place of its chunk size.
+fn with_chunk_size(bytes: u64) -> Owned {
+    with_bytes(new_volume(ChunkSize::K64), CHUNK_SIZE, &bytes.to_le_bytes())
+}
+
+#[test]
+fn every_call_refuses_every_other_chunk_size() {
+    for bytes in NO_CHUNK_SIZES.into_iter().chain([0]) {
+        let mut broken = with_chunk_size(bytes);
+        for (name, call) in CALLS {
+            let error = refusal(&mut broken, call);
+            assert_eq!(error, Error::UnsoundMemory, "{}: {}", bytes, name);
+        }
+    }
+    for size in ChunkSize::ALL {
+        assert_eq!(with_chunk_size(size.bytes()).check(), Ok(()));
+    }
+}
+
 #[test]
 fn a_refused_read_of_a_broken_volume_leaves_the_buffer() {
     let mut buffer = *b"kept";
@@ -120,14 +139,14 @@ fn a_memory_that_was_cut_is_refused() {
 fn a_broken_volume_is_made_new() {
     let mut bytes = sound().into_inner();
     bytes[0] ^= 1;
-    let volume = Volume::new(bytes, ROOMS, ChunkSize::Small).unwrap();
+    let volume = Volume::new(bytes, ROOMS, ChunkSize::K4).unwrap();
     assert_eq!(volume.check(), Ok(()));
 }
 
 /// As many chunks as a volume may have, all of them in one file: the check has a mark for the pointer of each.
 fn greatest() -> Owned {
-    let bytes = vec![0xa5; GREATEST.length_for(ChunkSize::Small) as usize];
-    let mut volume = Volume::new(bytes, GREATEST, ChunkSize::Small).unwrap();
+    let bytes = vec![0xa5; GREATEST.length_for(ChunkSize::K4) as usize];
+    let mut volume = Volume::new(bytes, GREATEST, ChunkSize::K4).unwrap();
     assert_eq!(volume.create(ROOT, b"f", Kind::File), Ok(FILE));
     let length = GREATEST.chunks as usize * CHUNK as usize;
     assert_eq!(volume.write(FILE, 0, &vec![1; length]), Ok(length));

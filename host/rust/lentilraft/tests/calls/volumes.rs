@@ -2,13 +2,11 @@
 
 use lentilraft::{open_allocator, ChunkSize, Error, Expected, Kind, Node, Rooms, Volume, ROOT};
 
-use crate::helpers::{new_volume, refusal, with_file, ROOMS};
-
-const SIZES: [ChunkSize; 3] = [ChunkSize::Small, ChunkSize::Medium, ChunkSize::Large];
+use crate::helpers::{new_volume, refusal, reported, with_file, NO_CHUNK_SIZES, ROOMS};
 
 #[test]
 fn a_new_volume_has_the_root_only() {
-    for size in SIZES {
+    for size in ChunkSize::ALL {
         let volume = new_volume(size);
         assert_eq!(volume.check(), Ok(()));
         assert_eq!(volume.node(ROOT).unwrap().kind, Kind::Directory);
@@ -20,10 +18,10 @@ fn a_new_volume_has_the_root_only() {
 fn a_volume_is_made_of_any_memory() {
     let length = ROOMS.least_length() as usize;
     let mut owned = vec![1; length];
-    let made = Volume::new(&mut owned[..], ROOMS, ChunkSize::Small).unwrap();
+    let made = Volume::new(&mut owned[..], ROOMS, ChunkSize::K4).unwrap();
     assert_eq!(made.check(), Ok(()));
     let boxed = vec![2; length].into_boxed_slice();
-    let made = Volume::new(boxed, ROOMS, ChunkSize::Small).unwrap();
+    let made = Volume::new(boxed, ROOMS, ChunkSize::K4).unwrap();
     assert!(made.bytes() == owned);
     assert!(made.into_inner()[..] == owned);
 }
@@ -70,7 +68,7 @@ fn new_is_refused_and_leaves_lent_bytes() {
 
 fn refuse_new(mut bytes: Vec<u8>, rooms: Rooms) {
     let before = bytes.clone();
-    let refused = Volume::new(&mut bytes[..], rooms, ChunkSize::Small);
+    let refused = Volume::new(&mut bytes[..], rooms, ChunkSize::K4);
     assert_eq!(refused.unwrap_err(), Error::InvalidArgument);
     assert!(bytes == before);
 }
@@ -83,7 +81,7 @@ fn a_volume_has_the_greatest_rooms() {
         chunks: 4096,
     };
     let bytes = vec![0; rooms.least_length() as usize];
-    let volume = Volume::new(bytes, rooms, ChunkSize::Small).unwrap();
+    let volume = Volume::new(bytes, rooms, ChunkSize::K4).unwrap();
     assert_eq!(volume.geometry().unwrap().rooms, rooms);
 }
 
@@ -106,23 +104,35 @@ fn a_clone_is_a_volume_of_its_own() {
 #[test]
 fn the_chunk_size_is_set_before_the_first_chunk() {
     let (mut volume, file) = with_file();
-    for size in SIZES {
+    for size in ChunkSize::ALL {
         assert_eq!(volume.set_chunk_size(size), Ok(()));
         assert_eq!(volume.geometry().unwrap().chunk_size, size);
     }
     volume.write(file, 0, b"x").unwrap();
     volume.resize(file, 0).unwrap();
-    assert_eq!(
-        refusal(&mut volume, |v| v.set_chunk_size(ChunkSize::Small)),
-        Error::InvalidArgument
-    );
-    assert_eq!(volume.set_chunk_size(ChunkSize::Large), Ok(()));
+    let (now, others) = ChunkSize::ALL.split_last().unwrap();
+    for size in others {
+        assert_eq!(
+            refusal(&mut volume, |v| v.set_chunk_size(*size)),
+            Error::InvalidArgument
+        );
+    }
+    assert_eq!(volume.set_chunk_size(*now), Ok(()));
 }
 
 #[test]
 fn the_report_of_a_new_volume() {
     let wanted = "format=1\nchunk_size=16384\nchunk_shift=14\nnodes=1\nentries=0\nchunks=0\nfree=0\nnext_ptr=0\nnext_node=1\n";
-    assert_eq!(new_volume(ChunkSize::Medium).report().unwrap(), wanted);
+    assert_eq!(new_volume(ChunkSize::K16).report().unwrap(), wanted);
+}
+
+#[test]
+fn the_report_tells_the_chunk_size_and_its_shift() {
+    for (size, shift) in ChunkSize::ALL.into_iter().zip(12..) {
+        let volume = new_volume(size);
+        assert_eq!(reported(&volume, "chunk_size"), size.bytes());
+        assert_eq!(reported(&volume, "chunk_shift"), shift);
+    }
 }
 
 /// Sixteen words of an allocator: a marker, a chunk size, a free count and the next pointer.
@@ -145,11 +155,23 @@ fn older_words_are_opened() {
 }
 
 #[test]
+fn words_with_any_chunk_size_are_opened() {
+    for size in ChunkSize::ALL {
+        let numbers = [size.bytes(), 0, 3 * size.bytes()];
+        let mut older = words(b"ALO1", numbers);
+        assert_eq!(open_allocator(&mut older), Ok(()));
+        assert_eq!(older, words(b"FSA1", numbers));
+    }
+}
+
+#[test]
 fn the_words_of_a_volume_are_an_allocator() {
-    let mut bytes = new_volume(ChunkSize::Small).into_inner();
-    let before = bytes.clone();
-    assert_eq!(open_allocator(&mut bytes[64..]), Ok(()));
-    assert!(bytes == before);
+    for size in ChunkSize::ALL {
+        let mut bytes = new_volume(size).into_inner();
+        let before = bytes.clone();
+        assert_eq!(open_allocator(&mut bytes[64..]), Ok(()));
+        assert!(bytes == before);
+    }
 }
 
 #[test]
@@ -161,7 +183,10 @@ fn wrong_words_are_refused() {
     refuse_open(Vec::new(), Error::InvalidArgument);
     refuse_open(words(b"FSA2", [16384, 0, 0]), Error::UnsoundMemory);
     refuse_open(words(b"FSA1", [0, 0, 16384]), Error::UnsoundMemory);
-    refuse_open(words(b"FSA1", [5, 0, 0]), Error::UnsoundMemory);
+    for bytes in NO_CHUNK_SIZES {
+        refuse_open(words(b"FSA1", [bytes, 0, 0]), Error::UnsoundMemory);
+        refuse_open(words(b"ALO1", [bytes, 0, 0]), Error::UnsoundMemory);
+    }
     refuse_open(words(b"FSA1", [16384, 1, 16384]), Error::UnsoundMemory);
     refuse_open(words(b"FSA1", [16384, 0, 1]), Error::UnsoundMemory);
 }
@@ -175,9 +200,9 @@ fn refuse_open(mut words: Vec<u8>, error: Error) {
 #[test]
 fn lengths_by_rooms() {
     assert_eq!(ROOMS.least_length(), 65_728 + 40 * 8 + 280 * 8 + 32 * 8);
-    assert_eq!(ROOMS.length_for(ChunkSize::Small), ROOMS.least_length());
+    assert_eq!(ROOMS.length_for(ChunkSize::K4), ROOMS.least_length());
     assert_eq!(
-        ROOMS.length_for(ChunkSize::Large),
+        ROOMS.length_for(ChunkSize::K64),
         ROOMS.least_length() + 7 * 65_536
     );
     let endless = Rooms {
@@ -186,15 +211,15 @@ fn lengths_by_rooms() {
         chunks: u64::MAX,
     };
     assert_eq!(endless.least_length(), u64::MAX);
-    assert_eq!(endless.length_for(ChunkSize::Small), u64::MAX);
+    assert_eq!(endless.length_for(ChunkSize::K4), u64::MAX);
 }
 
 #[test]
 fn chunk_sizes_by_bytes() {
-    for size in SIZES {
-        assert_eq!(ChunkSize::try_from(size.bytes()), Ok(size));
-    }
-    for bytes in [0, 4095, 8192, u64::MAX] {
+    let bytes = [4096, 8192, 16_384, 32_768, 65_536];
+    assert_eq!(ChunkSize::ALL.map(ChunkSize::bytes), bytes);
+    assert_eq!(bytes.map(ChunkSize::try_from), ChunkSize::ALL.map(Ok));
+    for bytes in NO_CHUNK_SIZES.into_iter().chain([0]) {
         assert_eq!(ChunkSize::try_from(bytes), Err(Error::InvalidArgument));
     }
 }
