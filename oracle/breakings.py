@@ -6,8 +6,8 @@ The names of the rules are those of oracle/judge.py.
 import copy
 
 from sound_volumes import DIRECTORY, FILE, LINK, chunk_row, entry_row, lay, words
-from sound_volumes import HUGE, LARGE, LAST_INDEX, LEAST_AREA, MIDDLE, MOST, MOST_ROWS, SIZES, SMALL
-from sound_volumes import FILES, FREED, FULL, GREATEST, LARGE_CHUNKS, LEAST, MANY, NEW, ONE_CHUNK, SHORT_AREA, SMALL_CHUNKS
+from sound_volumes import HUGE, LARGE, LAST_INDEX, LEAST_AREA, MIDDLE, MOST, MOST_ROWS, NO_SIZE, NO_SIZES, SIZES, SMALL
+from sound_volumes import BETWEEN, FILES, FREED, FULL, GREATEST, LARGE_CHUNKS, LEAST, MANY, NEW, ONE_CHUNK, SHORT_AREA, SMALL_CHUNKS
 from sound_volumes import LONG_NAME, VOLUMES
 
 # ---- changes: each takes a volume in parts and changes it
@@ -215,17 +215,29 @@ def allocator_head(to):
         to.breaks("marker", NEW, "word 0 has the bytes " + marker.hex(" "), whole(marker=marker))
     to.breaks("marker", FILES, "word 0 has a fifth byte", whole(marker=b"FSA1\x01\0\0\0"))
     to.breaks("marker", FILES, "ALO1", whole(marker=b"ALO1\0\0\0\0"))
-    near = [size + step for size in SIZES for step in (-1, 1)]
-    for size in (0, 1, 2048, *near, 8192, 32768, 131072, 2**32, 2**32 + MIDDLE, 2**63, HUGE):
-        to.breaks("chunk size", NEW, "chunk size %d" % size, whole(S=size))
-    for size in (0, 8192, 4095):
-        to.breaks("chunk size", FILES, "chunk size %d" % size, whole(S=size))
-    for size in (SMALL, LARGE):
-        to.keeps(NEW, "chunk size %d" % size, whole(S=size))
     for v in (NEW, FILES, FREED, GREATEST):
         to.breaks("free count", v, "C + 1 free pointers", whole(free_count=v.C + 1))
         to.breaks("free count", v, "2^64 - 1 free pointers", whole(free_count=HUGE))
     to.breaks("free count", FILES, "2^32 free pointers too many", whole(free_count=by(2**32)))
+
+
+# Numbers that are no size; and sizes, on volumes whose pointers go with them or do not.
+def chunk_sizes(to):
+    for size in (*NO_SIZES, 2**32 + MIDDLE):
+        to.breaks("chunk size", NEW, "chunk size %d" % size, whole(S=size))
+    for v in (FILES, *BETWEEN):
+        for size in (0, SMALL // 2, NO_SIZE, 2 * LARGE, 2**32 + SMALL, HUGE):
+            to.breaks("chunk size", v, "chunk size %d" % size, whole(S=size))
+        to.breaks("word 3 room + once", v, "chunks half as long", whole(S=v.S // 2))
+        to.breaks("once", v, "chunks half as long, and room for twice as many", whole(S=v.S // 2, C=2 * v.C))
+    for size in SIZES:
+        if size != NEW.S:
+            to.keeps(NEW, "chunk size %d" % size, whole(S=size))
+        if size != ONE_CHUNK.S:
+            to.keeps(ONE_CHUNK, "chunk size %d, and word 3 is one chunk" % size, whole(S=size, word_3=size))
+            to.breaks("once", ONE_CHUNK, "chunk size %d, and word 3 as it was" % size, whole(S=size, C=LARGE // size))
+    for v in BETWEEN:
+        to.breaks("place + zeros + stray", v, "chunks twice as long", whole(S=2 * v.S))
 
 
 def unread_words(to):
@@ -526,6 +538,12 @@ def places(to):
         to.breaks("place", SMALL_CHUNKS, "the last chunk row has index %d" % index, chunk(-1, index=index))
     for index in (1, 2**16, 2**32, 2**48, HUGE):
         to.breaks("place", LARGE_CHUNKS, "a chunk of a short file at index %d" % index, add_chunk(2**32, index))
+    for v in BETWEEN:
+        to.breaks("place", v, "a chunk at the size of a file that ends with a chunk", add_chunk(1, 2))
+        to.breaks("place", v, "a chunk at the rounded-up size of a file that ends inside", add_chunk(2, 4))
+        to.keeps(v, "a chunk in the hole of a file", add_chunk(2, 2))
+        to.keeps(v, "the last chunk of 2^40 bytes one place earlier", chunk(-1, index=by(-1)))
+        to.breaks("place", v, "the last chunk of 2^40 bytes one place later", chunk(-1, index=by(1)))
     to.keeps(LARGE_CHUNKS, "a chunk at the last place of the last node", add_chunk(HUGE - 1, 4))
     to.breaks("place", LARGE_CHUNKS, "a chunk at the size of the last node", add_chunk(HUGE - 1, 5))
 
@@ -537,6 +555,7 @@ def zeros(to):
         (FILES, 3 * MIDDLE, 11, MIDDLE, "the symbolic link"),
         (SMALL_CHUNKS, 5 * SMALL, 1, SMALL, "a file of one chunk and a byte"),
         (SMALL_CHUNKS, 7 * SMALL, 1, SMALL, "the last row"),
+        *((v, v.S, 1, v.S, "a file of three chunks and a byte") for v in BETWEEN),
         (LARGE_CHUNKS, 0, 1, LARGE, "a file of one chunk and a byte"),
         (FULL, 2 * MIDDLE, 1, MIDDLE, "the removed file"),
         (FULL, MIDDLE, 1, MIDDLE, "the last row"),
@@ -560,9 +579,10 @@ def zeros(to):
 
 
 def word_3(to):
-    for v, S in ((FILES, MIDDLE), (SMALL_CHUNKS, SMALL), (LARGE_CHUNKS, LARGE), (FULL, MIDDLE), (FREED, SMALL)):
+    for v in (FILES, SMALL_CHUNKS, *BETWEEN, LARGE_CHUNKS, FULL, FREED):
         to.breaks("word 3 aligned", v, "one too small", whole(word_3=by(-1)))
-        to.breaks("word 3 aligned", v, "a chunk too small but for a byte", whole(word_3=by(1 - S)))
+        to.breaks("word 3 aligned", v, "a chunk too small but for a byte", whole(word_3=by(1 - v.S)))
+        to.breaks("word 3 aligned", v, "half a chunk too small", whole(word_3=by(-v.S // 2)))
     to.breaks("word 3 aligned", FILES, "a multiple of 4,096", whole(word_3=by(-4096)))
     to.breaks("word 3 aligned", LARGE_CHUNKS, "a multiple of 16,384", whole(word_3=by(-16384)))
     to.breaks("word 3 aligned + once", FILES, "one too great", whole(word_3=by(1)))
@@ -577,6 +597,9 @@ def word_3(to):
     to.breaks("word 3 room", LARGE_CHUNKS, "one chunk above C x S", whole(C=2))
     to.breaks("word 3 room", SMALL_CHUNKS, "one chunk above C x S", whole(C=9))
     to.keeps(SMALL_CHUNKS, "word 3 is C x S, less than A", whole(C=10))
+    for v in BETWEEN:
+        to.breaks("word 3 room", v, "one chunk above C x S", whole(C=7))
+        to.keeps(v, "word 3 is C x S, less than A", whole(area=by(1)))
     to.breaks("word 3 room", FULL, "a chunk more is free than C allows", whole(area=by(MIDDLE), word_3=by(MIDDLE)), add_free(4 * MIDDLE))
     to.breaks("word 3 inside + word 3 room + once", FILES, "2^63", whole(word_3=2**63))
     to.breaks("word 3 inside + word 3 room + once", FILES, "2^32 above what it was", whole(word_3=by(2**32)))
@@ -620,6 +643,10 @@ def pointers(to):
     ):
         to.breaks("stray", FILES, "a free pointer more: " + what, add_free(pointer))
         to.breaks("stray", FILES, "a row more, whose pointer is " + what, add_chunk(9, 0, pointer))
+    for v in BETWEEN:
+        to.breaks("stray", v, "a free pointer more: half a chunk", add_free(v.S // 2))
+        to.breaks("stray", v, "a row more, whose pointer is half a chunk", add_chunk(2, 1, v.S // 2))
+        to.breaks("once", v, "the first and the last row have one pointer", chunk(-1, pointer=v.chunks[0].pointer))
     to.breaks("stray", NEW, "a free pointer 0, and nothing was given out", add_free(0))
     to.breaks("once + stray", FILES, "the first row's pointer is not aligned", chunk(0, pointer=by(1)))
     to.breaks("once + stray", FILES, "the last row's pointer is word 3", chunk(-1, pointer=10 * MIDDLE))
@@ -637,6 +664,7 @@ GROUPS = (
     length,
     used_counts,
     allocator_head,
+    chunk_sizes,
     unread_words,
     node_rows,
     limits,

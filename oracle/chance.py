@@ -2,7 +2,7 @@
 import copy
 
 import breakings
-from sound_volumes import DIRECTORY, FILE, HUGE, LAST_INDEX, LINK, LONG_NAME, MOST, lay, starts
+from sound_volumes import DIRECTORY, FILE, HUGE, LAST_INDEX, LINK, LONG_NAME, MOST, NO_SIZES, SIZES, lay, starts
 
 FIELDS = {
     "nodes": {"node": 64, "kind": 8, "flag": 8, "links": 64, "size": 64, "limit": 64},
@@ -40,7 +40,7 @@ def some_byte(random, v):
 
 def some_chunk_byte(random, v):
     start = random.choice([0, *(row.pointer for row in v.chunks)])
-    place = start + random.choice([0, 1, 36, 100, 4095, 8192, 16383, 65535])
+    place = start + random.choice([0, 1, 36, 100, 8192, *(size - 1 for size in SIZES)])
     return breakings.piece("area", min(place, v.area - 1), bytes([random.choice([0, 1])]))
 
 
@@ -94,6 +94,10 @@ def some_size(random, v):
     return breakings.node(row, size=size, flag=int(limit is not None), limit=limit or 0)
 
 
+def some_chunk_size(random, v):
+    return breakings.whole(S=random.choice(random.choice([SIZES, NO_SIZES])))
+
+
 def some_kind(random, v):
     return breakings.node(random.randrange(len(v.nodes)), kind=random.choice([DIRECTORY, FILE, LINK]))
 
@@ -117,17 +121,19 @@ CHANGES = (
     some_chunk,
     some_release,
     some_size,
+    some_chunk_size,
     some_kind,
     some_swap,
 )
 
 
-# what a volume has become, in bytes. A size or a count that fell below 0 is taken modulo 2^64.
+# what a volume has become, in bytes. A size, a limit or a count that fell below 0 is taken modulo 2^64.
 def changed(random, v):
     v = copy.deepcopy(v)
     for _ in range(random.choice([1, 1, 2, 3])):
         random.choice(CHANGES)(random, v)(v)
     for row in v.nodes:
         row.size %= 2**64
+        row.limit %= 2**64
         row.links %= 2**64
     return lay(v)

@@ -8,6 +8,7 @@ import pathlib
 import sys
 
 import plain_model as model
+from sound_volumes import HALF_LARGE, HALF_MIDDLE, LARGE, MIDDLE, NO_SIZE, NO_SIZES, SIZES, SMALL
 
 HERE = pathlib.Path(__file__).resolve().parent
 END = "0"
@@ -193,11 +194,34 @@ OWN_ENTRY = (
 )
 
 # Another chunk size: only while no pointer was given out, not even one that came back.
-SIZES = (
-    [volume(*ROOMS, 16384), create(0, b"a"), chunk_size(0), chunk_size(4095), chunk_size(8192), chunk_size(NEVER), chunk_size(4096), chunk_size(65536), chunk_size(16384), resize(1, LARGEST), chunk_size(4096), chunk_size(16384)]
-    + [write(1, 16383, 3), chunk_size(4096), chunk_size(65536), chunk_size(16384), chunk_size(0), unlink(0, b"a"), remove(1), report(600), chunk_size(4096), chunk_size(65536), chunk_size(16384), chunk_size(16385)]
-    + [volume(*ROOMS, 65536), chunk_size(4096), create(0, b"a"), write(1, 0, 4097), resize(1, 0), chunk_size(65536), chunk_size(4096), chunk_size(12288)]
+EVERY_SIZE = [chunk_size(span) for span in (*SIZES, MIDDLE, NO_SIZE, 0)]
+CHUNK_SIZES = (
+    [volume(*ROOMS, MIDDLE), create(0, b"a")]
+    + [chunk_size(span) for span in NO_SIZES]
+    + [line for span in SIZES for line in (chunk_size(span), report(512))]
+    + [chunk_size(MIDDLE), resize(1, LARGEST)]
+    + EVERY_SIZE
+    + [write(1, MIDDLE - 1, 3)]
+    + EVERY_SIZE
+    + [unlink(0, b"a"), remove(1), report(600)]
+    + EVERY_SIZE
+    + [volume(*ROOMS, LARGE), chunk_size(SMALL), create(0, b"a"), write(1, 0, SMALL + 1), resize(1, 0), chunk_size(LARGE), chunk_size(HALF_MIDDLE), chunk_size(SMALL), chunk_size(NO_SIZE)]
 )
+
+NEW_VOLUMES = [line for span in SIZES for line in (volume(*ROOMS, span), report(512))]
+
+
+# Files on chunks of a size: over a chunk's end, cut, grown, over a hole, with no room, freed and taken again.
+def on_chunks(S):
+    return (
+        [volume(*ROOMS, S, area=max(65536, 3 * S)), create(0, b"a"), create(0, b"b"), write(1, S - 1, 3), read(1, S - 2, 6), report(512)]
+        + [resize(1, S), resize(1, 2 * S), read(1, S - 2, 6), write(2, 2 * S + 5, 9), resize(2, 2 * S + 6), resize(2, S + 1), report(512)]
+        + [write(2, S // 2, S), read(2, 0, 2 * S), write(1, S, S + 1), write(1, S, S), resize(2, S // 2), resize(2, 2 * S), read(2, 0, 2 * S)]
+        + [chunk_size(S), chunk_size(S // 2), chunk_size(2 * S), write(2, LARGEST - 1, 1), write(2, LARGEST, 1), unlink(0, b"a"), remove(1), write(2, LARGEST - 1, 1), report(512)]
+    )
+
+
+FILES_BETWEEN = on_chunks(HALF_MIDDLE) + on_chunks(HALF_LARGE)
 
 # A report needs 512 bytes, however short its text is.
 REPORTS = [volume(*ROOMS), report(0), report(110), report(511), report(512), report(513), create(0, b"a"), write(1, 0, 5000), resize(1, 1), poke_word(NEXT_NODE, NEVER), report(511), report(512), report(4096)]
@@ -227,8 +251,8 @@ LOOSE = WHOLE + [poke(UNREAD, b"\xff" * 96), poke(AREA + 2 * 4096, b"\xff"), pok
 
 # A memory too short for any volume, or by a byte; and a new volume that is refused, over one that goes on.
 SHORT = [line for length in (0, 63, 64, LENGTH - 1) for line in [hexed(1, length, *ROOMS, 4096)] + EVERY_CALL]
-REFUSED_NEW = WHOLE + [hexed(1, LENGTH, *rooms, span) for rooms, span in (
-    (ROOMS, 0), (ROOMS, 8192), ((0, 8, 4), 4096), ((8, 0, 4), 4096), ((8, 8, 0), 4096), ((4097, 1, 1), 4096), ((1, 4097, 1), 4096), ((1, 1, 4097), 4096), ((9, 8, 4), 4096), ((NEVER, 8, 4), 4096))] + EVERY_CALL
+REFUSED_NEW = WHOLE + [volume(*ROOMS, span) for span in NO_SIZES] + [hexed(1, LENGTH, *rooms, span) for rooms, span in (
+    ((0, 8, 4), 4096), ((8, 0, 4), 4096), ((8, 8, 0), 4096), ((4097, 1, 1), 4096), ((1, 4097, 1), 4096), ((1, 1, 4097), 4096), ((9, 8, 4), 4096), ((NEVER, 8, 4), 4096))] + EVERY_CALL
 
 # The refusals of each call, as the scope has them.
 REFUSALS = {
@@ -265,7 +289,7 @@ def as_meant(line, answer):
 
 def main():
     folder = pathlib.Path(sys.argv[1]) if len(sys.argv) > 1 else HERE.parent / "crates/name_vectors"
-    runs = NAMES + PATHS + FULL + ROOM + SPARSE + LAST_NODE + LAST_INDEX + SIZES + REPORTS + BROKEN + LOOSE + SHORT + REFUSED_NEW + OWN_ENTRY
+    runs = NAMES + PATHS + FULL + ROOM + SPARSE + LAST_NODE + LAST_INDEX + CHUNK_SIZES + NEW_VOLUMES + FILES_BETWEEN + REPORTS + BROKEN + LOOSE + SHORT + REFUSED_NEW + OWN_ENTRY
     lines = [line for call in runs for line in (call, SUM)]
     answers = list(model.worked_out("name_vectors", "\n".join(lines), False))
     assert not amiss(lines, answers), amiss(lines, answers)

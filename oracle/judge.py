@@ -13,7 +13,7 @@ RULES = {
     "length": "Length is at least 65,728 + 40N + 280E + 32C",
     "used": "used counts fit",
     "marker": "word 0 is FSA1 and four zero bytes",
-    "chunk size": "Chunk sizes S: 4,096, 16,384 or 65,536",
+    "chunk size": "Chunk sizes S: one bit set and 12 to 16 trailing zeros",
     "free count": "C words for free pointers, from word 16",
     "type": "type byte (0 directory, 1 regular file, 2 symbolic link)",
     "flag": "limit flag byte (0 or 1)",
@@ -144,11 +144,17 @@ def judge_relations(verdict, nodes, entries):
         verdict.rule("size", n.size <= (n.limit if n.flag == 1 else MOST))
 
 
+def is_chunk_size(number):
+    bits = format(number, "b")
+    trailing_zeros = len(bits) - len(bits.rstrip("0"))
+    return bits.count("1") == 1 and 12 <= trailing_zeros <= 16
+
+
 def judge_allocator(verdict, allocator, area, C, nodes, chunks):
     words = [word for (word,) in struct.iter_unpack("<Q", allocator)]
     S, free_count, word_3 = words[1:4]
     verdict.rule("marker", allocator[:8] == b"FSA1" + bytes(4))
-    verdict.rule("chunk size", S in (4096, 16384, 65536))
+    verdict.rule("chunk size", is_chunk_size(S))
     verdict.rule("free count", free_count <= C)
     if "chunk size" in verdict or "free count" in verdict:
         return

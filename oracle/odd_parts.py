@@ -7,12 +7,12 @@ import struct
 import sys
 
 import plain_model as model
+from sound_volumes import NO_SIZE, SIZES, SMALL
 
 END = "0"
 SCOPE = 1  # whose answers they are
 PAST = b"\xff"  # what the program puts past the last whole word
 NEW, OLD, NO_MARK = (int.from_bytes(mark, "little") for mark in (b"FSA1", b"ALO1", b"FSA2"))
-SIZE = 4096
 
 
 def words(mark, size, free, next_pointer):
@@ -51,13 +51,14 @@ def run(length, given):
     return lines
 
 
-TWO = [SIZE, 0]
+TWO = [SMALL, 0]
 RUNS = (
-    [run(length, words(NEW, SIZE, [], 0)) for length in (0, 1, 8, 32, 64, 119, 120, 121, 127, 128, 129, 135, 136)]
+    [run(length, words(NEW, SMALL, [], 0)) for length in (0, 1, 8, 32, 64, 119, 120, 121, 127, 128, 129, 135, 136)]
     + [run(length, words(mark, 0, [], 0)) for mark in (OLD, NO_MARK) for length in (127, 128, 131, 191)]
-    + [run(length, words(NEW, SIZE, TWO, 2 * SIZE)) for length in (135, 136, 143, 144, 145, 151, 152, 191)]
-    + [run(length, words(OLD, SIZE, TWO[:1], 2 * SIZE)) for length in (128, 135, 136, 137, 143)]
-    + [run(length, words(NEW, SIZE, TWO, 2 * SIZE + 1)) for length in (127, 145)]
+    + [run(length, words(NEW, SMALL, TWO, 2 * SMALL)) for length in (135, 136, 143, 144, 145, 151, 152, 191)]
+    + [run(length, words(OLD, SMALL, TWO[:1], 2 * SMALL)) for length in (128, 135, 136, 137, 143)]
+    + [run(length, words(NEW, SMALL, TWO, 2 * SMALL + 1)) for length in (127, 145)]
+    + [run(length, words(OLD, size, [size], 2 * size)) for size in (*SIZES, NO_SIZE) for length in (127, 135, 137)]
 )
 
 

@@ -10,7 +10,7 @@ import sys
 import zlib
 
 import plain_model as model
-from sound_volumes import DIRECTORY, FILE, LARGE, LINK, MIDDLE, MOST, SMALL
+from sound_volumes import DIRECTORY, FILE, HALF_LARGE, HALF_MIDDLE, LARGE, LINK, MIDDLE, MOST, NO_SIZE, SIZES, SMALL
 
 # ---- what is drawn, as crates/sequence_vectors/src/draws.rt and asking.rt do it
 
@@ -59,7 +59,7 @@ def picked(weights, draw):
 
 
 def chunk_size(draw):
-    return picked([(SMALL, 1), (MIDDLE, 1), (LARGE, 1), (8192, 1)], draw)
+    return picked([(size, 1) for size in (*SIZES, NO_SIZE)], draw)
 
 
 def around(edge, draw):
@@ -268,7 +268,9 @@ SEQUENCES = (
     [sequence(1280 + i, 40, rooms, SMALL) for i, rooms in enumerate([(1, 1, 1), (2, 1, 1), (2, 2, 2)])]
     + [sequence(1380 + i, 160, rooms, SMALL) for i, rooms in enumerate([(3, 6, 2), (4, 4, 4), (5, 8, 3), (6, 3, 8), (8, 8, 8)])]
     + [sequence(1480 + i, 240, (12, 16, chunks), SMALL, area) for i, (chunks, area) in enumerate([(16, 65536), (12, 70000), (24, 69631), (6, 65536), (16, 131072)])]
+    + [sequence(1680 + i, 160, rooms, HALF_MIDDLE, area) for i, (rooms, area) in enumerate([((4, 5, 4), 65536), ((8, 8, 12), 73728), ((12, 12, 6), 65537)])]
     + [sequence(2280 + i, 160, rooms, MIDDLE) for i, rooms in enumerate([(3, 3, 1), (5, 6, 3), (8, 8, 8), (12, 12, 12)])]
+    + [sequence(2680 + i, 120, rooms, HALF_LARGE, area) for i, (rooms, area) in enumerate([((4, 5, 2), 65536), ((6, 6, 5), 131071), ((8, 8, 8), 200000)])]
     + [sequence(3280 + i, 120, rooms, LARGE, area) for i, (rooms, area) in enumerate([((4, 5, 2), 65536), ((5, 5, 5), 131073), ((8, 8, 8), 200000)])]
 )
 
@@ -318,7 +320,7 @@ def lines(line, seen):
 
 
 # So many of the same kind, for runs by hand.
-BULK = [sequence(10000 + i, 200, (1 + i % 13, 1 + i * 5 % 17, 1 + i * 7 % 19), (SMALL, SMALL, MIDDLE, SMALL, LARGE)[i % 5], 65536 + i * 4099 % 131072) for i in range(300)]
+BULK = [sequence(10000 + i, 200, (1 + i % 13, 1 + i * 5 % 17, 1 + i * 7 % 19), SIZES[i % len(SIZES)], 65536 + i * 4099 % 131072) for i in range(300)]
 
 
 def main():

@@ -7,7 +7,12 @@ LAST_INDEX = 2**32 - 1
 MOST = 2**40
 LEAST_AREA = 65536
 MOST_ROWS = 4096
-SMALL, MIDDLE, LARGE = SIZES = (4096, 16384, 65536)
+# The chunk sizes: one bit set, 12 to 16 trailing zeros.
+SMALL, HALF_MIDDLE, MIDDLE, HALF_LARGE, LARGE = SIZES = tuple(1 << shift for shift in range(12, 17))
+# Numbers that are none: two bits set; next to a size; below and above all; a size where only the low 32 bits count, or the bit's place modulo 32.
+NO_SIZE = SMALL + HALF_MIDDLE
+NEXT_TO_SIZES = tuple(size + step for size in SIZES for step in (-1, 1))
+NO_SIZES = (NO_SIZE, MIDDLE + LARGE, *NEXT_TO_SIZES, 0, 1, SMALL // 2, 2 * LARGE, 2**32, 2**32 + SMALL, 2**44, 2**63, HUGE)
 DIRECTORY, FILE, LINK = range(3)
 
 
@@ -232,6 +237,32 @@ LARGE_CHUNKS = volume(
     data=[(0, b"a"), (LARGE, b"b"), (2 * LARGE - 1, b"c")],
 )
 
+
+# The sizes between: files that end with a chunk and inside one, a hole, a removed file, freed pointers. Every chunk was given out.
+def chunks_of(label, S):
+    return volume(
+        label,
+        (6, 6, 8),
+        S,
+        8 * S,
+        9,
+        nodes=[
+            (0, DIRECTORY, 1, 3),
+            (1, FILE, 1, 2 * S),
+            (2, FILE, 1, 3 * S + 1, 4 * S),
+            (4, LINK, 1, S - 1),
+            (7, FILE, 0, MOST),
+        ],
+        entries=[(0, 1, b"even", 1), (0, 2, b"odd", 2), (0, 4, b"link", 4)],
+        chunks=[(1, 0, 7 * S), (1, 1, 0), (2, 0, 3 * S), (2, 3, S), (4, 0, 4 * S), (7, MOST // S - 1, 5 * S)],
+        word_3=8 * S,
+        free=[6 * S, 2 * S],
+        data=[(0, b"b"), (S - 1, b"e"), (S, b"o"), (5 * S - 2, b"e"), (6 * S, b"old bytes"), (8 * S - 1, b"e")],
+    )
+
+
+BETWEEN = (chunks_of("8K chunks", HALF_MIDDLE), chunks_of("32K chunks", HALF_LARGE))
+
 # Every row of every table in use, every chunk given out, none freed; the shortest memory.
 FULL = volume(
     "full",
@@ -296,4 +327,4 @@ def many(files):
 
 
 MANY = many(64)
-VOLUMES = (NEW, LEAST, GREATEST, FILES, SMALL_CHUNKS, LARGE_CHUNKS, FULL, FREED, SHORT_AREA, ONE_CHUNK, MANY)
+VOLUMES = (NEW, LEAST, GREATEST, FILES, SMALL_CHUNKS, *BETWEEN, LARGE_CHUNKS, FULL, FREED, SHORT_AREA, ONE_CHUNK, MANY)

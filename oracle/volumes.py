@@ -14,10 +14,11 @@ import struct
 import sys
 import zlib
 
+from sound_volumes import NO_SIZE, NO_SIZES, SIZES
+
 MEMORY = 1572864
 HUGE = 2**64 - 1
 END, NEW = range(2)
-SIZES = (4096, 16384, 65536)
 MOST_ROWS = 4096
 DIRECTORY = 0
 NO_LIMIT = 0
@@ -75,16 +76,21 @@ GREATEST = (MOST_ROWS, MOST_ROWS, MOST_ROWS)
 BETWEEN = ((2, 3, 5), (40, 7, 64), (4095, 2, 1000), (300, 4095, 4095), (MOST_ROWS, 1, 1), (1, MOST_ROWS, 1), (1, 1, MOST_ROWS))
 
 
+# the sizes in turn
+def sized(i):
+    return SIZES[i % len(SIZES)]
+
+
 # in the shortest memory, in one a byte longer, and in all there is
 def geometries():
     for rooms in (LEAST, GREATEST):
         for size in SIZES:
             yield *rooms, size, least_length(*rooms)
     for i, rooms in enumerate(BETWEEN):
-        yield *rooms, SIZES[i % 3], least_length(*rooms)
+        yield *rooms, sized(i), least_length(*rooms)
     for i, rooms in enumerate((LEAST, *BETWEEN, GREATEST)):
-        yield *rooms, SIZES[i % 3], least_length(*rooms) + 1
-        yield *rooms, SIZES[i % 3], MEMORY
+        yield *rooms, sized(i), least_length(*rooms) + 1
+        yield *rooms, sized(i), MEMORY
 
 
 # each table alone, also by numbers that look allowed when only their low 32 bits count, or their bytes modulo 2^64
@@ -100,23 +106,22 @@ def rooms_out_of_bounds():
 
 def memories_too_short():
     for i, rooms in enumerate((LEAST, *BETWEEN, GREATEST)):
-        yield *rooms, SIZES[i % 3], least_length(*rooms) - 1
+        yield *rooms, sized(i), least_length(*rooms) - 1
     yield *GREATEST, 4096, least_length(*LEAST)
     for length in (0, 1, 63, 64, 192, 65536, 65728):
         yield *LEAST, 4096, length
 
 
 def sizes_not_accepted():
-    near = [size + by for size in SIZES for by in (-1, 1)]
-    for size in (8192, 0, HUGE, 1, 2048, 32768, 131072, *near, 2**32, 2**32 + 4096, 2**63):
+    for size in NO_SIZES:
         yield *LEAST, size, least_length(*LEAST)
-    yield *GREATEST, 8192, least_length(*GREATEST)
+    yield *GREATEST, NO_SIZE, least_length(*GREATEST)
 
 
 def several_at_once():
     yield 0, 0, 0, 0, 0
     yield HUGE, HUGE, HUGE, HUGE, 0
-    yield *GREATEST, 8192, least_length(*GREATEST) - 1
+    yield *GREATEST, NO_SIZE, least_length(*GREATEST) - 1
     yield 0, MOST_ROWS + 1, 1, 0, MEMORY
 
 

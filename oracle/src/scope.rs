@@ -6,7 +6,6 @@ use crate::{
     calls::Call,
     error::Error,
     numbered::Numbered,
-    runtime::types::ChunkSize,
     storage::types::{MAX_FILE_ENTRY_INDEX, MAX_FILE_NAME},
     volume::FILE_LIMIT,
 };
@@ -42,8 +41,8 @@ pub fn number(error: Error) -> Option<u64> {
     })
 }
 
-pub fn is_chunk_size(size: u64) -> bool {
-    ChunkSize::VALUES.iter().any(|&value| value as u64 == size)
+fn is_chunk_size(size: u64) -> bool {
+    size.count_ones() == 1 && (12..=16).contains(&size.trailing_zeros())
 }
 
 /// The words after an accepted open, or the number of the refusal.

@@ -6,14 +6,18 @@ const FACTOR: u64 = 48_271;
 
 const PRIME: u64 = 2_147_483_647;
 
-// The chunk sizes, and a number that is none.
-const SMALL: u64 = 4_096;
+// The chunk sizes, and a number that is none, since it has two bits set.
+const SIZE_4K: u64 = 4_096;
 
-const MIDDLE: u64 = 16_384;
+const SIZE_8K: u64 = 8_192;
 
-const LARGE: u64 = 65_536;
+const SIZE_16K: u64 = 16_384;
 
-const NO_SIZE: u64 = 8_192;
+const SIZE_32K: u64 = 32_768;
+
+const SIZE_64K: u64 = 65_536;
+
+const NO_SIZE: u64 = 12_288;
 
 // The chunks at a file's front in which most calls work, and which are shown.
 pub(crate) const WINDOW: u64 = 4;
@@ -114,18 +118,22 @@ pub(crate) fn chunks(n: u64, span: u64) -> u64
     ensures { λ r. ⌜ r ≤ 262144 ⌝ }
 {
     match span {
-        SMALL => n % (WINDOW + 1) * SMALL,
-        MIDDLE => n % (WINDOW + 1) * MIDDLE,
-        _ => n % (WINDOW + 1) * LARGE,
+        SIZE_4K => n % (WINDOW + 1) * SIZE_4K,
+        SIZE_8K => n % (WINDOW + 1) * SIZE_8K,
+        SIZE_16K => n % (WINDOW + 1) * SIZE_16K,
+        SIZE_32K => n % (WINDOW + 1) * SIZE_32K,
+        _ => n % (WINDOW + 1) * SIZE_64K,
     }
 }
 
 pub(crate) fn chunk_size(draw: u64) -> u64 {
-    let n = draw % 4;
+    let n = draw % 6;
     match n {
-        0 => SMALL,
-        1 => MIDDLE,
-        2 => LARGE,
+        0 => SIZE_4K,
+        1 => SIZE_8K,
+        2 => SIZE_16K,
+        3 => SIZE_32K,
+        4 => SIZE_64K,
         _ => NO_SIZE,
     }
 }

@@ -9,27 +9,34 @@ use oracle::{
     scope::{self, FIRST_POINTER, MARKER, OLD_MARKER},
 };
 
-const SIZES: [u64; 3] = [4096, 16384, 65536];
+const SIZES: [u64; 5] = [4096, 8192, 16384, 32768, 65536];
 const MAX_ROOM: u64 = 8;
 const WORD_BYTES: usize = 8;
 const MAX_STEPS: u64 = 40;
 
-/// Sizes that no allocator may have. The last is cut to an accepted one where usize has 32 bits.
-const BAD_SIZES: [u64; 17] = [
+/// Sizes that no allocator may have: too low, too high, next to an accepted one, or with two bits
+/// set. The last is cut to an accepted one where usize has 32 bits. Open takes 0 for the default
+/// while word 3 is 0.
+const BAD_SIZES: [u64; 22] = [
+    0,
     1,
     2,
     2048,
     4095,
     4097,
-    8192,
-    12288,
+    8191,
+    8193,
+    4096 + 8192,
     16383,
     16385,
-    32768,
+    32767,
+    32769,
     65535,
     65537,
+    16384 + 65536,
     131072,
     1 << 32,
+    1 << 44,
     1 << 63,
     u64::MAX,
     (1 << 32) + 4096,
@@ -57,7 +64,7 @@ pub fn fixed(generator: &mut Generator) -> Vec<Item> {
     for size in SIZES {
         for room in 0..=MAX_ROOM {
             for free in 0..=room {
-                starts.push((good_words(generator, size, room, free), 26));
+                starts.push((good_words(generator, size, room, free), 18));
             }
         }
     }
@@ -74,12 +81,12 @@ pub fn fixed(generator: &mut Generator) -> Vec<Item> {
         }
         for room in [0, 2, 8] {
             // word 3 just above what fits the part, and at the top of u64
-            starts.push((plain_words(size, room, &[], (room + 1) * size), 20));
+            starts.push((plain_words(size, room, &[], (room + 1) * size), 12));
             for below_top in [1, 2] {
                 let next = 0u64.wrapping_sub(below_top * size);
                 let free = [next - size, 0, next - 2 * size];
                 let free = &free[..room.min(3) as usize];
-                starts.push((plain_words(size, room, free, next), 20));
+                starts.push((plain_words(size, room, free, next), 12));
             }
         }
     }
@@ -90,7 +97,7 @@ pub fn fixed(generator: &mut Generator) -> Vec<Item> {
 
 pub fn bulk(generator: &mut Generator) -> Vec<Item> {
     let mut starts = Vec::new();
-    for _ in 0..6_000 {
+    for _ in 0..10_000 {
         let room = generator.below(MAX_ROOM + 1);
         let (size, free) = (generator.one_of(&SIZES), generator.below(room + 1));
         let mut words = good_words(generator, size, room, free);
@@ -198,7 +205,6 @@ fn call(generator: &mut Generator, rust: &mut AllocatorWords, taste: u64) -> Vec
 fn set_chunk_size(generator: &mut Generator, rust: &mut AllocatorWords) -> Vec<u64> {
     let size = match generator.below(3) {
         0 => generator.one_of(&BAD_SIZES),
-        1 if generator.once_in(4) => 0,
         _ => generator.one_of(&SIZES),
     };
     let answer = rust.set_chunk_size(size).err();
@@ -275,7 +281,7 @@ fn bad_markers() -> Vec<Vec<u64>> {
     ];
     let mut starts: Vec<Vec<u64>> = Vec::new();
     for (i, name) in names.iter().enumerate() {
-        let mut words = plain_words(SIZES[i % 3], i as u64 % 9, &[], 0);
+        let mut words = plain_words(SIZES[i % SIZES.len()], i as u64 % 9, &[], 0);
         words[0] = u64::from_le_bytes(**name);
         starts.push(words);
     }
@@ -288,12 +294,13 @@ fn bad_markers() -> Vec<Vec<u64>> {
 /// The scope refuses these: each kind of damage at its smallest, and some at the ends of u64.
 fn damaged_words() -> Vec<Vec<u64>> {
     let mut starts = Vec::new();
-    for (i, size) in BAD_SIZES.into_iter().enumerate() {
+    let sizes = BAD_SIZES.into_iter().filter(|&size| size != 0);
+    for (i, size) in sizes.enumerate() {
         starts.push(plain_words(size, i as u64 % 9, &[], 0));
         starts.push(with(plain_words(size, 2, &[], 0), 0, MARKERS[i % 4]));
     }
     // size word 0
-    for next in [1, 4096, 16384, 65536, u64::MAX, 1 << 63] {
+    for next in [1, u64::MAX, 1 << 63].into_iter().chain(SIZES) {
         starts.push(plain_words(0, 1, &[], next));
         starts.push(with(plain_words(0, 1, &[], next), 0, OLD_MARKER));
     }

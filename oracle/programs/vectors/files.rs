@@ -52,7 +52,7 @@ pub fn summary(items: &[Item]) -> String {
 }
 
 pub fn fixed(generator: &mut Generator) -> Vec<Item> {
-    items(generator, 16)
+    items(generator, 10)
 }
 
 pub fn bulk(generator: &mut Generator) -> Vec<Item> {

@@ -80,7 +80,7 @@ pub fn summary(items: &[Item]) -> String {
 }
 
 pub fn fixed(generator: &mut Generator) -> Vec<Item> {
-    items(generator, 1, 95, |_| [ROWS; 3], Run::chosen_calls)
+    items(generator, 1, 57, |_| [ROWS; 3], Run::chosen_calls)
 }
 
 pub fn bulk(generator: &mut Generator) -> Vec<Item> {
