@@ -4,20 +4,21 @@ use mathlib.Core.Path.{_≡_, refl, sym, _∙_}
 use mathlib.Core.Bool.{Bool, true, false}
 use mathlib.Core.List.{List}
 use Prim.Native.Nat.{ℕ, _≤_, _<_}
-use native.Mathlib.Omega.{arith}
+use lib.Count.{ones}
 use lib.Dec.{eqb}
 use lib.ListN.{length}
 use borrow.Author.Tests.{eq-eqb, ne-eqb, eqb-true, eqb-false, lt-ltb, le-ltb}
 use Rattle.words.specs.Bytes.{over, spell, num, word}
 use Rattle.words.specs.Rules.{pick}
 use Rattle.words.proofs.Rules.{pick-true, pick-false, done, or-else}
+use Rattle.words.proofs.Powers.{power-ones}
 use Rattle.types.specs.Outcomes.{outcome, refused}
 use Rattle.types.specs.declared.Answer.the-variants.{Done}
 use Rattle.types.specs.declared.Error.the-variants.{UnsoundMemory, InvalidArgument}
 use Rattle.allocator.specs.Sizes.{acceptedSize, defaultSize}
 use Rattle.allocator.specs.Allocator.{marker}
 use Rattle.allocator.specs.Opening.{newMark, oldMark, markKnown, sizeMeant, sizeAllowed, openable, markRenewed, sizeRenewed, opened}
-use Rattle.allocator.proofs.Sizes.{accepted-bounds}
+use Rattle.allocator.proofs.Sizes.{accepted-one}
 
 module _ (l : List ℕ) where
   -- ---- the marker: x is what the first four bytes spell
@@ -64,17 +65,14 @@ module _ (l : List ℕ) where
   unfolding sizeRenewed
   size-kept e h = pick-false _ _ _ _ (rw (← e) (ne-eqb _ _ h)) refl
 
-  -- a size that is meant is positive
-  pub meant-positive : {s : ℕ} → s ≡ sizeMeant l → sizeAllowed l ≡ true → 0 < s
+  -- a size that is meant has one bit set
+  pub meant-one : {s : ℕ} → s ≡ sizeMeant l → sizeAllowed l ≡ true → ones s ≡ 1
   unfolding sizeMeant sizeAllowed pick
-  meant-positive {s} e h = go (eqb (word l 8) 0) refl
+  meant-one {s} e h = go (eqb (word l 8) 0) refl
     where
-      go : (t : Bool) → eqb (word l 8) 0 ≡ t → 0 < s
-      go true z = let q : s ≡ defaultSize = e ∙ sym (size-default refl (eqb-true _ _ z)) in omega arith
-      go false z =
-          let q : s ≡ word l 8 = e ∙ sym (size-stored refl (eqb-false _ _ z)) in
-          let a : acceptedSize (word l 8) ≡ true = sized-some refl (eqb-false _ _ z) refl ∙ h in
-          omega (arith, accepted-bounds (word l 8) a)
+      go : (t : Bool) → eqb (word l 8) 0 ≡ t → ones s ≡ 1
+      go true z = rw (e ∙ sym (size-default refl (eqb-true _ _ z))) (power-ones 14)
+      go false z = rw (e ∙ sym (size-stored refl (eqb-false _ _ z))) (accepted-one (word l 8) (sized-some refl (eqb-false _ _ z) refl ∙ h))
 
   -- ---- the outcome
 

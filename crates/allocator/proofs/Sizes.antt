@@ -24,17 +24,17 @@ module _ (s : ℕ) where
   unfolding acceptedSize
   other-bits h = stop _ _ (ne-eqb _ _ h)
 
-  pub zeros-below : ones s ≡ 1 → trailingZeros 64 s < leastShift → false ≡ acceptedSize s
+  pub few-zeros : ones s ≡ 1 → trailingZeros 64 s < leastShift → false ≡ acceptedSize s
   unfolding acceptedSize
-  zeros-below e h = go-on _ _ (eq-eqb _ _ e) (stop _ _ (lt-leb _ _ h))
+  few-zeros e h = go-on _ _ (eq-eqb _ _ e) (stop _ _ (lt-leb _ _ h))
 
-  pub zeros-above : ones s ≡ 1 → leastShift ≤ trailingZeros 64 s → mostShift < trailingZeros 64 s → false ≡ acceptedSize s
+  pub many-zeros : ones s ≡ 1 → leastShift ≤ trailingZeros 64 s → mostShift < trailingZeros 64 s → false ≡ acceptedSize s
   unfolding acceptedSize
-  zeros-above e l h = go-on _ _ (eq-eqb _ _ e) (go-on _ _ (le-leb _ _ l) (sym (lt-leb _ _ h)))
+  many-zeros e l h = go-on _ _ (eq-eqb _ _ e) (go-on _ _ (le-leb _ _ l) (sym (lt-leb _ _ h)))
 
-  pub zeros-within : ones s ≡ 1 → leastShift ≤ trailingZeros 64 s → trailingZeros 64 s ≤ mostShift → true ≡ acceptedSize s
+  pub right-zeros : ones s ≡ 1 → leastShift ≤ trailingZeros 64 s → trailingZeros 64 s ≤ mostShift → true ≡ acceptedSize s
   unfolding acceptedSize
-  zeros-within e l h = go-on _ _ (eq-eqb _ _ e) (go-on _ _ (le-leb _ _ l) (sym (le-leb _ _ h)))
+  right-zeros e l h = go-on _ _ (eq-eqb _ _ e) (go-on _ _ (le-leb _ _ l) (sym (le-leb _ _ h)))
 
 -- ---- what is accepted: the powers of two whose exponent is 12 to 16
 
@@ -47,6 +47,9 @@ pub record Exponent (s k : ℕ) : Type 0 where
 pub exponent-zeros : {s k : ℕ} → Exponent s k → trailingZeros 64 s ≡ k
 exponent-zeros {s} {k} x = rw (x .power) (power-zeros 64 k (omega (arith, x .most)))
 
+exponent-one : {s k : ℕ} → Exponent s k → ones s ≡ 1
+exponent-one {s} {k} x = ap ones (x .power) ∙ power-ones k
+
 pub says-accepted : (s : ℕ) → Says (Exponent s (trailingZeros 64 s)) (acceptedSize s)
 unfolding acceptedSize
 says-accepted s =
@@ -56,10 +59,14 @@ says-accepted s =
     to h = record { least = h .1 .0; most = h .1 .1; power = one-set 64 s (h .0) (omega (arith, h .1 .1)) }
 
     from : Exponent s (trailingZeros 64 s) → (ones s ≡ 1) × ((leastShift ≤ trailingZeros 64 s) × (trailingZeros 64 s ≤ mostShift))
-    from x = (ap ones (x .power) ∙ power-ones (trailingZeros 64 s), (x .least, x .most))
+    from x = (exponent-one x, (x .least, x .most))
 
 pub accepted-exponent : (s : ℕ) → acceptedSize s ≡ true → Exponent s (trailingZeros 64 s)
 accepted-exponent s e = says-true (says-accepted s) e
+
+-- it has one bit set, so that code divides by it with a shift
+pub accepted-one : (s : ℕ) → acceptedSize s ≡ true → ones s ≡ 1
+accepted-one s e = exponent-one (accepted-exponent s e)
 
 pub exponent-accepted : (k : ℕ) → leastShift ≤ k → k ≤ mostShift → acceptedSize (2 ^ k) ≡ true
 exponent-accepted k l m =

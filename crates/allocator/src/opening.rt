@@ -9,7 +9,8 @@ use types::Answer;
 use types::Error;
 ghost use mathlib.Core.Path.{_≡_};
 ghost use mathlib.Core.Bool.{true, not};
-ghost use Prim.Native.Nat.{_+_, _-_, _*_, _≤_, _<_};
+ghost use Prim.Native.Nat.{_+_, _*_, _≤_};
+ghost use lib.Count.{ones};
 ghost use lib.ListN.{length};
 ghost use lib.Dec.{eqb};
 ghost use Rattle.words.specs.Bytes.{word};
@@ -62,10 +63,10 @@ fn is_sized(words: &[u8]) -> bool
 
 // Aligned and below word 3.
 pub fn is_lined(span: u64, next: u64, pointer: u64) -> bool
-    requires { ⌜ 0 < span ⌝ }
+    requires { ⌜ ones span ≡ 1 ⌝ }
     ensures { λ r. ⌜ r ≡ lined span next pointer ⌝ }
 {
-    if pointer % span != 0 {
+    if words::remainder(pointer, span) != 0 {
         return false;
     }
     pointer < next
@@ -73,7 +74,7 @@ pub fn is_lined(span: u64, next: u64, pointer: u64) -> bool
 
 // Every free pointer is aligned and below word 3.
 fn all_lined(words: &[u8], count: usize, span: u64, next: u64) -> bool
-    requires { ⌜ (0 < span) × (128 + 8 * count ≤ length (now words)) ⌝ }
+    requires { ⌜ (ones span ≡ 1) × (128 + 8 * count ≤ length (now words)) ⌝ }
     ensures { λ r. ⌜ r ≡ upto count (λ i. lined span next (freeWord (now (words .entry)) i)) ⌝ }
 {
     let mut i = 0;
@@ -119,11 +120,11 @@ fn all_apart(words: &[u8], count: usize) -> bool
 
 // Whether word 3 and the free pointers can be of a chunk size.
 fn pointers_good(words: &[u8], span: u64) -> bool
-    requires { ⌜ (128 ≤ length (now words)) × (0 < span) ⌝ }
+    requires { ⌜ (128 ≤ length (now words)) × (ones span ≡ 1) ⌝ }
     ensures { λ r. ⌜ r ≡ freeWordsGood (now (words .entry)) span ⌝ }
 {
     let next = words::get64(words, MAX_PTR);
-    if next % span != 0 {
+    if words::remainder(next, span) != 0 {
         return false;
     }
     let count = get_len(words);

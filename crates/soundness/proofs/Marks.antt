@@ -7,6 +7,7 @@ use Prim.Native.Nat.{ℕ, zero, suc, _+_, _*_, _/_, _%_, _≤_, _<_}
 use native.Mathlib.Nat.{div-lt-iff-lt-mul}
 use native.Mathlib.Numerals.{add-one}
 use native.Mathlib.Omega.{arith}
+use lib.Count.{ones}
 use lib.Dec.{eqb}
 use lib.ListN.{length, getD, getD-replicate, length-replicate, length-set}
 use lib.Seq.{getD-set-same, getD-set-other}
@@ -15,6 +16,7 @@ use Rattle.words.specs.Rules.{bit, Says, holds, fails}
 use Rattle.words.specs.Tests.{tally}
 use Rattle.words.proofs.Rules.{says-both, says-upto, says-eqb, says-true, upto-start, upto-turn, upto-fail, upto-same, call-yes, call-no, tally-grows, tally-all, all-tally, tally-more}
 use Rattle.words.proofs.Counting.{bit-same, bit-apart, tally-none}
+use Rattle.words.proofs.Powers.{one-positive}
 use Rattle.words.proofs.Multiples.{whole, chunk-of}
 use Rattle.allocator.specs.Opening.{lined}
 use Rattle.allocator.proofs.OpenWords.{says-lined}
@@ -168,8 +170,8 @@ module _ (s : ℕ) (f g : ℕ → ℕ) (m : List ℕ) where
 
 -- ---- for the code: a pass, pointer after pointer
 
-pub place-there : (s next p : ℕ) → 0 < s → next ≤ 4096 * s → lined s next p ≡ true → p / s < 4096
-place-there s next p pos room e = place-low s next pos room p (says-true (says-lined s next p) e .1)
+pub place-there : (s next p : ℕ) {q : ℕ} → ones s ≡ 1 → next ≤ 4096 * s → q ≡ p / s → lined s next p ≡ true → q < 4096
+place-there s next p one room h e = rw h (place-low s next (one-positive s one) room p (says-true (says-lined s next p) e .1))
 
 module _ (s next : ℕ) (f : ℕ → ℕ) (m : List ℕ) where
   abbrev inTurn : ℕ → Bool

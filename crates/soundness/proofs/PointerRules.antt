@@ -165,8 +165,8 @@ module _ (l : List ℕ) (y : Layout) (r : Ready l y) where
       q ∙ rw (h, words-lent l y r, e, free-length) (markable-same s (freeWord (wordsIn l)) (freePointer (free allocator)) m next (allocator .freeCount) (λ i h. sym (free-at i h)))
 
   -- as many as there are
-  pub as-many : (q : ℕ) {used count : ℕ} → used ≡ length (shown l .store .chunks) → count ≡ allocator .freeCount → eqb (used + count) q ≡ eqb (length (shown l .store .chunks) + length (free allocator)) q
-  as-many q h e = rw (h, e, free-length)
+  pub as-many : (q : ℕ) {used count t : ℕ} → used ≡ length (shown l .store .chunks) → count ≡ allocator .freeCount → t ≡ q → eqb (used + count) t ≡ eqb (length (shown l .store .chunks) + length (free allocator)) q
+  as-many q h e f = rw (h, e, f, free-length)
 
 -- ---- for the code: numbers that it read
 

@@ -5,6 +5,7 @@ use volume::ChunkRow;
 use volume::Layout;
 ghost use mathlib.Core.Path.{_≡_};
 ghost use Prim.Native.Nat.{_+_, _≤_, _<_};
+ghost use lib.Count.{ones};
 ghost use lib.ListN.{length};
 ghost use Rattle.types.specs.Sizes.{mostSize};
 ghost use Rattle.volume.specs.Volume.{shown};
@@ -14,13 +15,13 @@ ghost use Rattle.soundness.specs.OwnerRules.{tailZero, ownedBy, rowOwned
 
 // Whether the bytes of a chunk above the file's size are zero. Only a chunk that the size ends in has any.
 fn tail_zero(volume: &[u8], layout: Layout, span: u64, row: ChunkRow, size: u64) -> bool
-    requires { ⌜ Ready (now volume) layout × (0 < span) × (span ≤ 65536) × (row .pointer + span ≤ length (shown (now volume) .store .bytes)) ⌝ }
+    requires { ⌜ Ready (now volume) layout × (ones span ≡ 1) × (span ≤ 65536) × (row .pointer + span ≤ length (shown (now volume) .store .bytes)) ⌝ }
     ensures { λ r. ⌜ r ≡ tailZero span (shown (now (volume .entry)) .store .bytes) row size ⌝ }
 {
-    if row.index < size / span {
+    if row.index < words::quotient(size, span) {
         return true;
     }
-    let used = size % span;
+    let used = words::remainder(size, span);
     let from = layout.area + (row.pointer + used) as usize;
     let rest = (span - used) as usize;
     words::is_zero(&volume[from..from + rest])
@@ -29,7 +30,7 @@ fn tail_zero(volume: &[u8], layout: Layout, span: u64, row: ChunkRow, size: u64)
 // Whether the owner can have the chunk: it is no directory, its size reaches the index, and the bytes above the size are zero. Indexes are
 // compared as u64: one may have any value.
 fn owned_by(volume: &[u8], layout: Layout, span: u64, row: ChunkRow, owner: NodeRecord) -> bool
-    requires { ⌜ Ready (now volume) layout × (0 < span) × (span ≤ 65536) × (row .pointer + span ≤ length (shown (now volume) .store .bytes)) × (owner .size ≤ mostSize) ⌝ }
+    requires { ⌜ Ready (now volume) layout × (ones span ≡ 1) × (span ≤ 65536) × (row .pointer + span ≤ length (shown (now volume) .store .bytes)) × (owner .size ≤ mostSize) ⌝ }
     ensures { λ r. ⌜ r ≡ ownedBy span (shown (now (volume .entry)) .store .bytes) row owner ⌝ }
 {
     let kind = owner.kind;

@@ -2,7 +2,8 @@
 use volume::Layout;
 ghost use mathlib.Core.Path.{_≡_};
 ghost use mathlib.Core.Bool.{true};
-ghost use Prim.Native.Nat.{_+_, _*_, _≤_, _<_};
+ghost use Prim.Native.Nat.{_+_, _*_, _≤_};
+ghost use lib.Count.{ones};
 ghost use lib.ListN.{length};
 ghost use Rattle.allocator.specs.Allocator.{free};
 ghost use Rattle.allocator.specs.Opening.{freeWord};
@@ -19,10 +20,10 @@ const MARKED: u8 = 1;
 
 // Whether word 3 is a multiple of the chunk size, and the area and the table have room for the chunks below it.
 pub fn next_fits(span: u64, next: u64, area: u64, chunks: u64) -> bool
-    requires { ⌜ (0 < span) × (span ≤ 65536) × (chunks ≤ 4096) ⌝ }
+    requires { ⌜ (ones span ≡ 1) × (span ≤ 65536) × (chunks ≤ 4096) ⌝ }
     ensures { λ r. ⌜ r ≡ nextFits span next area chunks ⌝ }
 {
-    if next % span != 0 {
+    if words::remainder(next, span) != 0 {
         return false;
     }
     if area < next {
@@ -33,13 +34,13 @@ pub fn next_fits(span: u64, next: u64, area: u64, chunks: u64) -> bool
 
 // Marks a pointer: whether it is a multiple of the chunk size below word 3, and was not marked yet.
 fn mark(marks: &mut [u8; MARKS], span: u64, next: u64, pointer: u64) -> bool
-    requires { ⌜ (0 < span) × (next ≤ 4096 * span) ⌝ }
+    requires { ⌜ (ones span ≡ 1) × (next ≤ 4096 * span) ⌝ }
     ensures { λ r. ⌜ (r ≡ markable span next pointer (now (marks .entry))) × (r ≡ true → now (marks .exit) ≡ withMark span pointer (now (marks .entry))) ⌝ }
 {
     if !allocator::is_lined(span, next, pointer) {
         return false;
     }
-    let place = (pointer / span) as usize;
+    let place = words::quotient(pointer, span) as usize;
     if marks[place] != UNMARKED {
         return false;
     }
@@ -49,7 +50,7 @@ fn mark(marks: &mut [u8; MARKS], span: u64, next: u64, pointer: u64) -> bool
 
 // Marks the pointer of every row: whether each could be marked.
 fn mark_rows(volume: &[u8], layout: Layout, marks: &mut [u8; MARKS], span: u64, next: u64) -> bool
-    requires { ⌜ Ready (now volume) layout × (0 < span) × (next ≤ 4096 * span) ⌝ }
+    requires { ⌜ Ready (now volume) layout × (ones span ≡ 1) × (next ≤ 4096 * span) ⌝ }
     ensures { λ r. ⌜ Passed span next (rowPointer (shown (now (volume .entry)) .store .chunks)) (length (shown (now (volume .entry)) .store .chunks)) (now (marks .entry)) r (now (marks .exit)) ⌝ }
 {
     let used = tables::chunks_used(volume, layout);
@@ -66,7 +67,7 @@ fn mark_rows(volume: &[u8], layout: Layout, marks: &mut [u8; MARKS], span: u64, 
 
 // Marks every free pointer: whether each could be marked.
 fn mark_free(words: &[u8], count: usize, marks: &mut [u8; MARKS], span: u64, next: u64) -> bool
-    requires { ⌜ (128 + 8 * count ≤ length (now words)) × (0 < span) × (next ≤ 4096 * span) ⌝ }
+    requires { ⌜ (128 + 8 * count ≤ length (now words)) × (ones span ≡ 1) × (next ≤ 4096 * span) ⌝ }
     ensures { λ r. ⌜ Passed span next (freeWord (now (words .entry))) count (now (marks .entry)) r (now (marks .exit)) ⌝ }
 {
     let mut i = 0;
@@ -82,7 +83,7 @@ fn mark_free(words: &[u8], count: usize, marks: &mut [u8; MARKS], span: u64, nex
 // Whether every pointer ever given out is live once or free once. The allocator's words are a part of the volume that starts in its middle:
 // they end where the node rows begin. No pointer was marked twice, so that all are marked if there are as many as multiples.
 pub fn pointers_good(volume: &[u8], layout: Layout, span: u64, next: u64) -> bool
-    requires { ⌜ Ready (now volume) layout × (0 < span) × (next ≤ 4096 * span) ⌝ }
+    requires { ⌜ Ready (now volume) layout × (ones span ≡ 1) × (next ≤ 4096 * span) ⌝ }
     ensures { λ r. ⌜ r ≡ pointersGood span next (shown (now (volume .entry)) .store .chunks) (free (shown (now (volume .entry)) .store .allocator)) ⌝ }
 {
     let mut marks = [UNMARKED; MARKS];
@@ -100,5 +101,5 @@ pub fn pointers_good(volume: &[u8], layout: Layout, span: u64, next: u64) -> boo
     ) {
         return false;
     }
-    (tables::chunks_used(volume, layout) + count) as u64 == next / span
+    (tables::chunks_used(volume, layout) + count) as u64 == words::quotient(next, span)
 }

@@ -5,6 +5,7 @@ use mathlib.Core.Bool.{Bool, true, false}
 use mathlib.Core.List.{List, _++_}
 use Prim.Native.Nat.{ℕ, _+_, _-_, _*_, _≤_}
 use native.Mathlib.Omega.{arith}
+use lib.Count.{ones}
 use lib.ListN.{length, take, drop, length-set}
 use Rattle.words.specs.Bytes.{part, word}
 use Rattle.words.specs.Rules.{pick}
@@ -12,7 +13,7 @@ use Rattle.words.proofs.Parts.{length-part, lent-at}
 use Rattle.types.specs.declared.Answer.{Answer}
 use Rattle.allocator.specs.Allocator.{Allocator, AllocatorStep, readAllocator, layAllocator, allocate, release, setChunkSize}
 use Rattle.allocator.specs.Words.{WordsFormed}
-use Rattle.allocator.proofs.Sizes.{accepted-bounds}
+use Rattle.allocator.proofs.Sizes.{accepted-bounds, accepted-one}
 use Rattle.allocator.proofs.Allocated.{allocate-rest}
 use Rattle.volume.specs.Header.{atChunkRoom}
 use Rattle.volume.specs.declared.Layout.{Layout}
@@ -79,6 +80,10 @@ module _ (l : List ℕ) (y : Layout) (r : Ready l y) where
 
   pub size-bounds : (4096 ≤ shown l .store .allocator .chunkSize) × (shown l .store .allocator .chunkSize ≤ 65536)
   size-bounds = accepted-bounds (shown l .store .allocator .chunkSize) (r .formed .fits .store .size)
+
+  -- and the one bit of it that is set
+  pub size-one : {s : ℕ} → s ≡ shown l .store .allocator .chunkSize → ones s ≡ 1
+  size-one e = ap ones e ∙ accepted-one (shown l .store .allocator .chunkSize) (r .formed .fits .store .size)
 
   pub framed : Framed l
   framed = rw (r .formed .same) at (framed-laid (shown l) (r .formed .fits))

@@ -3,7 +3,8 @@ use crate::CHUNK_ROW;
 use crate::ChunkRow;
 use crate::pairs::pair_before;
 ghost use mathlib.Core.Path.{_≡_};
-ghost use Prim.Native.Nat.{_+_, _*_, _≤_, _<_};
+ghost use Prim.Native.Nat.{_+_, _*_, _≤_};
+ghost use lib.Count.{ones};
 ghost use lib.ListN.{length};
 ghost use Rattle.words.specs.Bytes.{part, over};
 ghost use Rattle.words.specs.Tables.{table, lead};
@@ -72,8 +73,8 @@ pub fn seek_chunk(volume: &[u8], base: usize, used: usize, node: u64, index: u64
 
 // A file's size divided by the chunk size, rounded up: its chunks have lower indexes.
 pub fn round_up(size: u64, span: u64) -> u64
-    requires { ⌜ (0 < span) × (span ≤ 65536) × (size ≤ mostSize) ⌝ }
+    requires { ⌜ (ones span ≡ 1) × (span ≤ 65536) × (size ≤ mostSize) ⌝ }
     ensures { λ r. ⌜ (r ≡ roundUp span size) × (r ≤ size) ⌝ }
 {
-    (size + (span - 1)) / span
+    words::quotient(size + (span - 1), span)
 }

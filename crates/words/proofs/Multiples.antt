@@ -15,6 +15,14 @@ pub record Parts (S j : ℕ) : Type 0 where
 pub parts : {S : ℕ} → 0 < S → (j : ℕ) → Parts S j
 parts {S} pos j = record { low = div-mul-le-self j S; high = lt-div-mul-add pos; rest = mod-eq-sub-div-mul j S }
 
+-- the rest, by the quotient
+module _ (S j : ℕ) {q : ℕ} (pos : 0 < S) (e : q ≡ j / S) where
+  pub taken-most : q * S ≤ j
+  taken-most = rw e (parts pos j .low)
+
+  pub taken-rest : j - q * S ≡ j % S
+  taken-rest = rw e (omega (arith, parts pos j))
+
 -- the chunk that holds j
 pub chunk-of : (S k j : ℕ) → k * S ≤ j → j < k * S + S → j / S ≡ k
 chunk-of S k j l h = div-eq-of-lt-le S l (rw (add-one, suc-mul) h)

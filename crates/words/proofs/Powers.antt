@@ -18,6 +18,26 @@ none-set-in (suc d) x h e =
 none-set : (x : ℕ) → ones x ≡ 0 → x ≡ 0
 none-set x e = none-set-in x x (omega arith) e
 
+ones-zero : ones 0 ≡ 0
+unfolding ones
+ones-zero = refl
+
+pub one-positive : (x : ℕ) → ones x ≡ 1 → 0 < x
+one-positive zero e = absurd (omega (arith, ones-zero))
+one-positive (suc x) e = omega arith
+
+-- the one bit of a number of d digits stands among these
+pub bit-below : (d x : ℕ) → x < 2 ^ d → ones x ≡ 1 → trailingZeros d x < d
+unfolding trailingZeros
+bit-below zero x h e = absurd (omega (arith, one-positive x e))
+bit-below (suc d) x h e = go (x % 2) refl (λ l p. bit-below d (x / 2) l p)
+  where
+    go : (r : ℕ) → x % 2 ≡ r → (x / 2 < 2 ^ d → ones (x / 2) ≡ 1 → trailingZeros d (x / 2) < d) → under r (trailingZeros d (x / 2)) < suc d
+    go zero p half =
+        let w : 2 ^ suc d ≡ 2 ^ d * 2 = pow-suc 2 d in
+        omega (arith, half (omega arith) (omega (arith, ones-step x)))
+    go (suc r) p half = omega arith
+
 -- the number may have more digits than the d that are looked at, as long as the one set is among them
 pub one-set : (d x : ℕ) → ones x ≡ 1 → trailingZeros d x < d → x ≡ 2 ^ trailingZeros d x
 unfolding trailingZeros
@@ -36,6 +56,10 @@ one-set (suc d) x e h = go (x % 2) refl h (λ a b. one-set d (x / 2) a b)
         let s = ones-step x in
         let z : x / 2 ≡ 0 = none-set (x / 2) (omega arith) in
         omega arith
+
+-- a u64 with one bit set
+pub is-power : (x : ℕ) → x < 2 ^ 64 → ones x ≡ 1 → x ≡ 2 ^ trailingZeros 64 x
+is-power x h e = one-set 64 x e (bit-below 64 x h e)
 
 -- ---- from the power to its bits
 

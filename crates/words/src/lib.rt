@@ -1,10 +1,13 @@
 // Numbers and runs of bytes in lent bytes, little-endian as the volume is.
 // The contracts speak of the bytes as lists: `part`, `over`, `num`, `spell` and `zeros` of specs/Bytes.antt.
 mod compare;
+mod dividing;
 mod moves;
 
 pub use compare::is_zero;
 pub use compare::same;
+pub use dividing::quotient;
+pub use dividing::remainder;
 pub use moves::clear;
 pub use moves::copy;
 pub use moves::shift_down;

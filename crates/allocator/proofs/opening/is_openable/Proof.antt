@@ -5,7 +5,7 @@ use mathlib.Core.Path.{ap, _∙_}
 use Prim.Native.Nat.{_-_}
 use Rattle.words.proofs.Rules.{stop, go-on, call-yes, call-no}
 use Rattle.allocator.specs.Opening.{freeWordsGood, openable}
-use Rattle.allocator.proofs.Opened.{meant-positive}
+use Rattle.allocator.proofs.Opened.{meant-one}
 use Rattle.allocator.proofs.opening.is_openable.Tie as tie
 
 is-marked-requires : tie.Need-is-marked-requires
@@ -28,7 +28,7 @@ size-meant-requires c κs = search needs
 
 pointers-good-requires : tie.Need-pointers-good-requires
 pointers-good-requires c κs =
-    (search needs, meant-positive (now (c .before .before .before .before .before .before .args .words)) (c .size-meant .ensures) (call-yes (c .before .before .is-sized .ensures) (c .before .if2 .left)))
+    (search needs, meant-one (now (c .before .before .before .before .before .before .args .words)) (c .size-meant .ensures) (call-yes (c .before .before .is-sized .ensures) (c .before .if2 .left)))
 
 returns-3 : tie.Need-returns-3
 unfolding openable

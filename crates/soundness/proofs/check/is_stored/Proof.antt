@@ -5,7 +5,7 @@ use native.Mathlib.Omega.{arith}
 use Rattle.words.proofs.Rules.{stop, go-on, call-yes, call-no}
 use Rattle.allocator.specs.Allocator.{free}
 use Rattle.volume.specs.Volume.{shown}
-use Rattle.tables.proofs.LentAllocator.{size-bounds}
+use Rattle.tables.proofs.LentAllocator.{size-bounds, size-one}
 use Rattle.soundness.specs.Checked.{stored}
 use Rattle.soundness.proofs.PointerRules.{next-there, next-as, pointers-as}
 
@@ -27,7 +27,7 @@ chunk-room-requires c κs = c .before .before .before .before .before .pre .0
 
 next-fits-requires : tie.Need-next-fits-requires
 next-fits-requires c κs =
-    (omega (arith, c .before .before .before .before .before .before .pre .1, (size-bounds (now (c .before .before .before .before .before .before .args .volume)) (c .before .before .before .before .before .before .args .layout) (c .before .before .before .before .before .before .pre .0))), omega (arith, c .before .before .before .before .before .before .pre .1, (size-bounds (now (c .before .before .before .before .before .before .args .volume)) (c .before .before .before .before .before .before .args .layout) (c .before .before .before .before .before .before .pre .0))), c .chunk-room .ensures .1)
+    (size-one (now (c .before .before .before .before .before .before .args .volume)) (c .before .before .before .before .before .before .args .layout) (c .before .before .before .before .before .before .pre .0) (c .before .before .before .before .before .before .pre .1), omega (arith, c .before .before .before .before .before .before .pre .1, (size-bounds (now (c .before .before .before .before .before .before .args .volume)) (c .before .before .before .before .before .before .args .layout) (c .before .before .before .before .before .before .pre .0))), c .chunk-room .ensures .1)
 
 returns-2 : tie.Need-returns-2
 unfolding stored
@@ -36,7 +36,7 @@ returns-2 c =
 
 pointers-good-requires : tie.Need-pointers-good-requires
 pointers-good-requires c κs =
-    (c .before .before .before .before .before .before .before .before .pre .0, omega (arith, c .before .before .before .before .before .before .before .before .pre .1, (size-bounds (now (c .before .before .before .before .before .before .before .before .args .volume)) (c .before .before .before .before .before .before .before .before .args .layout) (c .before .before .before .before .before .before .before .before .pre .0))), next-there _ _ _ _ (c .before .before .chunk-room .ensures .1) (call-yes (c .before .next-fits .ensures) (c .if2 .left)))
+    (c .before .before .before .before .before .before .before .before .pre .0, size-one (now (c .before .before .before .before .before .before .before .before .args .volume)) (c .before .before .before .before .before .before .before .before .args .layout) (c .before .before .before .before .before .before .before .before .pre .0) (c .before .before .before .before .before .before .before .before .pre .1), next-there _ _ _ _ (c .before .before .chunk-room .ensures .1) (call-yes (c .before .next-fits .ensures) (c .if2 .left)))
 
 returns-3 : tie.Need-returns-3
 unfolding stored

@@ -5,7 +5,7 @@ use denote.Ref.{now}
 use mathlib.Core.Path.{_∙_, ap, sym}
 use native.Mathlib.Omega.{arith}
 use Rattle.volume.specs.Volume.{shown}
-use Rattle.tables.proofs.LentAllocator.{size-bounds}
+use Rattle.tables.proofs.LentAllocator.{size-bounds, size-one}
 use Rattle.tables.proofs.TableSearch.{node-found}
 use Rattle.soundness.proofs.OwnerRules.{row-chunk-inside, node-size, no-owner, by-owner}
 
@@ -32,7 +32,7 @@ node-row-requires c κs =
 owned-by-requires : tie.Need-owned-by-requires
 owned-by-requires c κs = (
   c .before .before .before .before .before .before .before .pre .0,
-  omega (arith, c .before .before .before .before .before .before .before .pre .3, (size-bounds (now (c .before .before .before .before .before .before .before .args .volume)) (c .before .before .before .before .before .before .before .args .layout) (c .before .before .before .before .before .before .before .pre .0))),
+  size-one (now (c .before .before .before .before .before .before .before .args .volume)) (c .before .before .before .before .before .before .before .args .layout) (c .before .before .before .before .before .before .before .pre .0) (c .before .before .before .before .before .before .before .pre .3),
   omega (arith, c .before .before .before .before .before .before .before .pre .3, (size-bounds (now (c .before .before .before .before .before .before .before .args .volume)) (c .before .before .before .before .before .before .before .args .layout) (c .before .before .before .before .before .before .before .pre .0))),
   omega (arith, ap (λ r. r .pointer) (c .before .before .before .before .before .chunk-row .ensures), c .before .before .before .before .before .before .before .pre .3, row-chunk-inside (now (c .before .before .before .before .before .before .before .args .volume)) (c .before .before .before .before .before .before .before .args .layout) (c .before .before .before .before .before .before .before .pre .0) (c .before .before .before .before .before .before .before .pre .2) (c .before .before .before .before .before .before .before .args .i) (c .before .before .before .before .before .before .before .pre .4)),
   omega (arith, ap (λ r. r .size) (c .node-row .ensures), node-size (now (c .before .before .before .before .before .before .before .args .volume)) (c .before .before .before .before .before .before .before .args .layout) (c .before .before .before .before .before .before .before .pre .0) (c .before .before .before .before .before .before .before .pre .1) _ ((node-found _ ((shown (now (c .before .before .before .before .before .before .before .args .volume)) .names) .nodes) _ (sym (c .before .before .found .given .1) ∙ c .before .before .before .before .find-node .ensures) .0))),

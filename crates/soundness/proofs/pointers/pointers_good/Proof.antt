@@ -48,13 +48,13 @@ chunks-used-requires c κs = c .before .before .before .before .before .before .
 add-result : tie.Need-add-result
 add-result c = search needs
 
-div-result : tie.Need-div-result
-div-result c = search needs
+quotient-requires : tie.Need-quotient-requires
+quotient-requires c κs = search needs
 
 returns-3 : tie.Need-returns-3
 unfolding pointersGood
 returns-3 c =
-    go-on _ _ (call-yes (c .before .before .before .before .before .before .before .mark-rows .ensures .0) (c .before .before .before .before .before .before .if1 .left)) (go-on _ _ (call-yes ((free-marked (now (c .before .before .before .before .before .before .before .before .before .before .args .volume)) (c .before .before .before .before .before .before .before .before .before .before .args .layout) (c .before .before .before .before .before .before .before .before .before .before .pre .0) (c .before .before .before .before .before .before .before .before .before .before .args .span) (c .before .before .before .before .before .before .before .before .before .before .args .next) (marksAfter (c .before .before .before .before .before .before .before .before .before .before .args .span) (rowPointer ((shown (now (c .before .before .before .before .before .before .before .before .before .before .args .volume)) .store .chunks))) (length ((shown (now (c .before .before .before .before .before .before .before .before .before .before .args .volume)) .store .chunks))) unmarked) (c .before .before .before .before .before .before .before .mark-rows .ensures .1 (not-false _ (c .before .before .before .before .before .before .if1 .left))) (c .before .before .before .before .before .free-count .ensures .0) (c .before .before .mark-free .ensures .0))) (c .before .if2 .left)) (as-many (now (c .before .before .before .before .before .before .before .before .before .before .args .volume)) (c .before .before .before .before .before .before .before .before .before .before .args .layout) (c .before .before .before .before .before .before .before .before .before .before .pre .0) _ (c .chunks-used .ensures .0) (c .before .before .before .before .before .free-count .ensures .0)))
+    go-on _ _ (call-yes (c .before .before .before .before .before .before .before .before .mark-rows .ensures .0) (c .before .before .before .before .before .before .before .if1 .left)) (go-on _ _ (call-yes ((free-marked (now (c .before .before .before .before .before .before .before .before .before .before .before .args .volume)) (c .before .before .before .before .before .before .before .before .before .before .before .args .layout) (c .before .before .before .before .before .before .before .before .before .before .before .pre .0) (c .before .before .before .before .before .before .before .before .before .before .before .args .span) (c .before .before .before .before .before .before .before .before .before .before .before .args .next) (marksAfter (c .before .before .before .before .before .before .before .before .before .before .before .args .span) (rowPointer ((shown (now (c .before .before .before .before .before .before .before .before .before .before .before .args .volume)) .store .chunks))) (length ((shown (now (c .before .before .before .before .before .before .before .before .before .before .before .args .volume)) .store .chunks))) unmarked) (c .before .before .before .before .before .before .before .before .mark-rows .ensures .1 (not-false _ (c .before .before .before .before .before .before .before .if1 .left))) (c .before .before .before .before .before .before .free-count .ensures .0) (c .before .before .before .mark-free .ensures .0))) (c .before .before .if2 .left)) (as-many (now (c .before .before .before .before .before .before .before .before .before .before .before .args .volume)) (c .before .before .before .before .before .before .before .before .before .before .before .args .layout) (c .before .before .before .before .before .before .before .before .before .before .before .pre .0) _ (c .before .chunks-used .ensures .0) (c .before .before .before .before .before .before .free-count .ensures .0) (c .quotient .ensures)))
 
 pub pointers-good-spec : {M : Type 1} → statement M
 pointers-good-spec =
@@ -70,5 +70,5 @@ pointers-good-spec =
     returns-2
     chunks-used-requires
     add-result
-    div-result
+    quotient-requires
     returns-3)
