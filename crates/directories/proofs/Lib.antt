@@ -1,5 +1,6 @@
 pub mod EntrySearch
 pub mod NamedEntry
+pub mod SearchSteps
 pub mod Reaching
 pub mod PathSteps
 pub mod FoundNode

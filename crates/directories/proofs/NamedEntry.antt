@@ -1,134 +1,207 @@
--- The entry that a search ends at is the one of that name, and where it ends at none there is none.
+-- A search among a directory's entries tells what the definitions tell: of the entry that has the name, of a limit, and that there is none.
 -- Assumes nothing.
 use mathlib.Core.Path.{_≡_, refl, sym, ap, _∙_}
-use mathlib.Core.Bool.{Bool, true, false, not, false≢true}
+use mathlib.Core.Bool.{Bool, true, false, false≢true}
 use mathlib.Core.List.{List, [], _∷_}
-use mathlib.Core.Logic.{inl, inr}
 use mathlib.Core.Option.{none, some}
-use Prim.Native.Nat.{ℕ, suc, _+_, _≤_, _<_}
+use Prim.Native.Nat.{ℕ, zero, suc, _+_, _-_, _≤_, _<_}
 use native.Mathlib.Nat.{not-suc-le-zero}
 use native.Mathlib.Omega.{arith}
 use native.Mathlib.Decide.{decLt}
 use lib.Dec.{eqb, ltb}
-use lib.ListN.{length, drop, getD, length-drop, drop-of-length-le}
-use lib.Seq.{drop-cons, drop-drop, getD-drop}
-use borrow.Author.Tests.{eq-eqb, ne-eqb, lt-ltb, ltb-true, eqb-true}
+use lib.ListN.{length, take, drop, getD, length-drop}
+use lib.Seq.{length-take-le, getD-drop, getD-take}
+use borrow.Author.Tests.{lt-ltb, le-ltb}
 use Rattle.words.specs.Rules.{pick, both, same}
-use Rattle.words.specs.Tables.{lead, find, Each, Asc}
-use Rattle.words.proofs.Joined.{both-true}
-use Rattle.words.proofs.Order.{each-map}
-use Rattle.words.proofs.Rules.{says-true, says-false, false-says, stop, go-on, pick-true}
-use Rattle.words.proofs.Search.{asc-falls, falls-drop, find-none, find-behind, lead-above, lead-ends}
+use Rattle.words.specs.Tables.{lead, leadOf, Asc}
+use Rattle.words.proofs.Rules.{pick-true, pick-false, stop, go-on}
+use Rattle.words.proofs.Search.{lead-le, lead-ends}
+use Rattle.types.specs.declared.Search.{Search}
+use Rattle.types.specs.declared.Search.the-variants as told
 use Rattle.volume.specs.Rows.{Entry, readEntry}
-use Rattle.volume.specs.Search.{PairBefore, entryUnder}
+use Rattle.volume.specs.Search.{entryUnder}
 use Rattle.volume.specs.Sound.{entryBefore}
-use Rattle.volume.proofs.PairOrder.{says-pair}
 use Rattle.tables.specs.Tables.{entryAt}
-use Rattle.tables.proofs.TableSearch.{entry-falls}
-use Rattle.names.specs.Entries.{hasName, entryNamed}
-use Rattle.directories.specs.declared.searching.Searched.the-variants.{At, Absent}
-use Rattle.directories.specs.Searches.{otherName, entryThere, searchedFrom, searched}
+use Rattle.tables.specs.declared.Found.the-variants as found
+use Rattle.names.specs.Entries.{entryNamed}
+use Rattle.names.specs.Searching.{entriesFrom, namedFrom, lookedThrough}
+use Rattle.names.proofs.LookedThrough.{other, Told, told-found, told-absent, told-stopped, told, first-named, none-named}
+use Rattle.names.proofs.EntryRuns.{mine, entries-run}
+use Rattle.names.proofs.SearchLaws.{named-all}
+use Rattle.directories.specs.declared.searching.Searched.{Searched}
+use Rattle.directories.specs.declared.searching.Searched.the-variants.{At, Absent, Stopped}
+use Rattle.directories.specs.Searches.{otherName, entryThere, searchedFrom, searched, foundFrom, entryFound}
+use Rattle.directories.proofs.EntrySearch.{there-inside}
 
--- ---- of entries
+-- ---- rows that lead
+
+module _ {R : Type 0} where
+  -- those that pass a second test too, among those that pass the first
+  lead-both : (f g : R → Bool) (rs : List R) → lead (λ r. both (f r) (g r)) rs ≡ lead g (take (lead f rs) rs)
+  unfolding lead leadOf both
+  lead-both f g [] = refl
+  lead-both f g (r ∷ rs) = go (f r) (lead-both f g rs)
+    where
+      go : (b : Bool) → lead (λ s. both (f s) (g s)) rs ≡ lead g (take (lead f rs) rs) → leadOf (both b (g r)) (lead (λ s. both (f s) (g s)) rs) ≡ lead g (take (leadOf b (lead f rs)) (r ∷ rs))
+      go true h = ap (leadOf (g r)) h
+      go false h = refl
+
+  lead-passes : (f : R → Bool) (d : R) (rs : List R) (i : ℕ) → i < lead f rs → f (getD rs i d) ≡ true
+  unfolding lead leadOf
+  lead-passes f d [] i h = absurd (not-suc-le-zero h)
+  lead-passes f d (r ∷ rs) i h = go (f r) refl i h (lead-passes f d rs)
+    where
+      go : (b : Bool) → f r ≡ b → (i : ℕ) → i < leadOf b (lead f rs) → ((j : ℕ) → j < lead f rs → f (getD rs j d) ≡ true) → f (getD (r ∷ rs) i d) ≡ true
+      go true q zero k ih = q
+      go true q (suc i) k ih = ih i (omega arith)
+      go false q i k ih = absurd (not-suc-le-zero k)
+
+-- ---- the directory's entries from an index on
+
+module _ (d : ℕ) (name : List ℕ) (from : ℕ) (es : List Entry) (asc : Asc entryBefore es) where
+  abbrev first : ℕ
+  first = lead (entryUnder d from) es
+
+  abbrev behind : List Entry
+  behind = drop first es
+
+  abbrev among : List Entry
+  among = entriesFrom d from es
+
+  abbrev many : ℕ
+  many = lead (mine d from) behind
+
+  many-there : length among ≡ many
+  many-there = rw (entries-run d from es asc) (length-take-le many behind (lead-le (mine d from) behind))
+
+  passed-there : lead (otherName d name) behind ≡ lead (other name) among
+  passed-there = lead-both (mine d from) (other name) behind ∙ ap (lead (other name)) (sym (entries-run d from es asc))
+
+  there-in : (j : ℕ) → j < length among → (entryThere d es (first + j) ≡ true) × (getD among j (readEntry []) ≡ entryAt es (first + j))
+  unfolding entryThere
+  there-in j h =
+      let k : j < many = omega (arith, many-there) in
+      let long : many ≤ length es - first = rw (length-drop first es) at (lead-le (mine d from) behind) in
+      let e : getD behind j (readEntry []) ≡ entryAt es (first + j) = getD-drop first es j (readEntry []) in
+      let p : mine d from (entryAt es (first + j)) ≡ true = ap (mine d from) (sym e) ∙ lead-passes (mine d from) (readEntry []) behind j k in
+      (sym (go-on _ _ (lt-ltb (first + j) (length es) (omega arith)) (sym p)), ap (λ (l : List Entry). getD l j (readEntry [])) (entries-run d from es asc) ∙ getD-take many behind j (readEntry []) k ∙ e)
+
+  there-end : entryThere d es (first + length among) ≡ false
+  unfolding entryThere
+  there-end = rw many-there (go (decLt (first + many) (length es)))
+    where
+      go : Dec (first + many < length es) → both (ltb (first + many) (length es)) (eqb (entryAt es (first + many) .parent) d) ≡ false
+      go (yes h) =
+          let k : many < length behind = rw (length-drop first es) (omega arith) in
+          let p : mine d from (entryAt es (first + many)) ≡ false = ap (mine d from) (sym (getD-drop first es many (readEntry []))) ∙ lead-ends (mine d from) (readEntry []) behind k in
+          sym (go-on _ _ (lt-ltb (first + many) (length es) h) (sym p))
+      go (no h) = let k : length es ≤ first + many = omega arith in sym (stop _ _ (le-ltb (first + many) (length es) k))
+
+  -- ---- what is told of them
+
+  -- a place that a search ends at is that of the entry told of, and the number looked at is the same
+  pub data ShowsSearch : Searched → Search → Type 0 where
+    shows-found : (p k : ℕ) → p < length es → ShowsSearch (At p k) (told.Found (entryAt es p .index) (entryAt es p .node) k)
+    shows-absent : (k : ℕ) → ShowsSearch (Absent k) (told.Absent k)
+    shows-stopped : (p k : ℕ) → p < length es → ShowsSearch (Stopped p k) (told.Stopped (entryAt es p .index) k)
+
+  pub search-shows : (most : ℕ) → ShowsSearch (searched d name from most es) (lookedThrough name most among)
+  unfolding searched searchedFrom
+  search-shows most = rw passed-there (go (lookedThrough name most among) (told name most among))
+    where
+      passed : ℕ
+      passed = lead (other name) among
+
+      ended : passed ≡ length among → length among ≤ most → Dec (passed < most) → searchedFrom d es first most passed ≡ Absent (length among)
+      ended q l (yes h) = unfold searchedFrom in sym (pick-true _ _ _ _ (lt-ltb passed most h) (pick-false _ _ _ _ (ap (λ j. entryThere d es (first + j)) q ∙ there-end) (ap Absent (sym q))))
+      ended q l (no h) =
+          let k : most ≡ length among = omega arith in
+          unfold searchedFrom in sym (pick-false _ _ _ _ (le-ltb passed most (omega arith)) (pick-false _ _ _ _ (ap (λ j. entryThere d es (first + j)) k ∙ there-end) (ap Absent (sym k))))
+
+      go : (s : Search) → Told name most among s → ShowsSearch (searchedFrom d es first most passed) s
+      go _ (told-found h b) =
+          let t = there-in passed b in
+          let e : searchedFrom d es first most passed ≡ At (first + passed) (passed + 1) = unfold searchedFrom in sym (pick-true _ _ _ _ (lt-ltb passed most h) (pick-true _ _ _ _ (t .0) refl)) in
+          rw (e, t .1) (shows-found (first + passed) (passed + 1) (there-inside d es (t .0)))
+      go _ (told-absent q l) = rw (ended q l (decLt passed most)) (shows-absent (length among))
+      go _ (told-stopped h b) =
+          let t = there-in most b in
+          let e : searchedFrom d es first most passed ≡ Stopped (first + most) most = unfold searchedFrom in sym (pick-false _ _ _ _ (le-ltb passed most h) (pick-true _ _ _ _ (t .0) refl)) in
+          rw (e, t .1) (shows-stopped (first + most) most (there-inside d es (t .0)))
+
+  -- the numbers that code makes of a place are the entry's
+  module _ (most : ℕ) {r : Searched} (h : r ≡ searched d name from most es) where
+    pub found-told : {p k : ℕ} → r ≡ At p k → (p < length es) × ((i n : ℕ) → i ≡ entryAt es p .index → n ≡ entryAt es p .node → told.Found i n k ≡ lookedThrough name most among)
+    found-told {p} {k} q = go (searched d name from most es) (lookedThrough name most among) (search-shows most) (sym q ∙ h)
+      where
+        go : (x : Searched) (s : Search) → ShowsSearch x s → At p k ≡ x → (p < length es) × ((i n : ℕ) → i ≡ entryAt es p .index → n ≡ entryAt es p .node → told.Found i n k ≡ s)
+        go _ _ (shows-found q j b) e = let y : p ≡ q = cc in let z : k ≡ j = cc in (rw y b, λ i n u v. rw (u, v, y, z))
+        go _ _ (shows-absent j) e = let y : _≡_ {A = ℕ} 0 1 = cc in absurd (omega arith)
+        go _ _ (shows-stopped q j b) e = let y : _≡_ {A = ℕ} 0 2 = cc in absurd (omega arith)
+
+    pub absent-told : {k : ℕ} → r ≡ Absent k → told.Absent k ≡ lookedThrough name most among
+    absent-told {k} q = go (searched d name from most es) (lookedThrough name most among) (search-shows most) (sym q ∙ h)
+      where
+        go : (x : Searched) (s : Search) → ShowsSearch x s → Absent k ≡ x → told.Absent k ≡ s
+        go _ _ (shows-found q j b) e = let y : _≡_ {A = ℕ} 0 1 = cc in absurd (omega arith)
+        go _ _ (shows-absent j) e = let z : k ≡ j = cc in ap told.Absent z
+        go _ _ (shows-stopped q j b) e = let y : _≡_ {A = ℕ} 1 2 = cc in absurd (omega arith)
+
+    pub stopped-told : {p k : ℕ} → r ≡ Stopped p k → (p < length es) × ((i : ℕ) → i ≡ entryAt es p .index → told.Stopped i k ≡ lookedThrough name most among)
+    stopped-told {p} {k} q = go (searched d name from most es) (lookedThrough name most among) (search-shows most) (sym q ∙ h)
+      where
+        go : (x : Searched) (s : Search) → ShowsSearch x s → Stopped p k ≡ x → (p < length es) × ((i : ℕ) → i ≡ entryAt es p .index → told.Stopped i k ≡ s)
+        go _ _ (shows-found q j b) e = let y : _≡_ {A = ℕ} 0 2 = cc in absurd (omega arith)
+        go _ _ (shows-absent j) e = let y : _≡_ {A = ℕ} 1 2 = cc in absurd (omega arith)
+        go _ _ (shows-stopped q j b) e = let y : p ≡ q = cc in let z : k ≡ j = cc in (rw y b, λ i u. rw (u, y, z))
+
+-- ---- the entry that has a name
 
 module _ (d : ℕ) (name : List ℕ) (es : List Entry) (asc : Asc entryBefore es) where
-  abbrev first : ℕ
-  first = lead (entryUnder d 0) es
+  abbrev all : List Entry
+  all = entriesFrom d 0 es
 
-  abbrev passed : ℕ
-  passed = lead (otherName d name) (drop first es)
+  abbrev place : ℕ
+  place = lead (entryUnder d 0) es + lead (other name) all
 
-  under-missed : (e : Entry) → entryUnder d 0 e ≡ true → hasName d name e ≡ false
-  under-missed e h = sym (stop _ _ (ne-eqb (e .parent) d (λ q. go q (says-true (says-pair (e .parent) (e .index) d 0) h))))
+  place-there : lead (entryUnder d 0) es + lead (otherName d name) (drop (lead (entryUnder d 0) es) es) ≡ place
+  place-there = ap (λ k. lead (entryUnder d 0) es + k) (passed-there d name 0 es asc)
+
+  here : lead (other name) all < length all → entryNamed d name es ≡ some (entryAt es place)
+  unfolding namedFrom
+  here h = sym (named-all d name es) ∙ first-named name all h ∙ ap some (there-in d name 0 es asc (lead (other name) all) h .1)
+
+  nowhere : lead (other name) all ≡ length all → entryNamed d name es ≡ none
+  unfolding namedFrom
+  nowhere h = sym (named-all d name es) ∙ none-named name all h
+
+  -- it is there, or all are passed
+  inside : entryThere d es place ≡ true → lead (other name) all < length all
+  inside t = go (decLt (lead (other name) all) (length all))
     where
-      go : e .parent ≡ d → PairBefore (e .parent) (e .index) d 0 → ⊥
-      go q (inl l) = omega arith
-      go q (inr p) = not-suc-le-zero (p .1)
+      go : Dec (lead (other name) all < length all) → lead (other name) all < length all
+      go (yes h) = h
+      go (no h) = let k : length all ≡ lead (other name) all = omega (arith, lead-le (other name) all) in absurd (false≢true (sym (there-end d name 0 es asc) ∙ ap (λ j. entryThere d es (lead (entryUnder d 0) es + j)) k ∙ t))
 
-  other-missed : (e : Entry) → otherName d name e ≡ true → hasName d name e ≡ false
-  other-missed e h =
-      let p = both-true (eqb (e .parent) d) (not (same (e .name) name)) h in
-      sym (go-on _ _ (p .0) (go (same (e .name) name) (p .1)))
+  outside : entryThere d es place ≡ false → lead (other name) all ≡ length all
+  outside t = go (decLt (lead (other name) all) (length all))
     where
-      go : (b : Bool) → not b ≡ true → false ≡ b
-      go true q = absurd (false≢true q)
-      go false q = refl
+      go : Dec (lead (other name) all < length all) → lead (other name) all ≡ length all
+      go (yes h) = absurd (false≢true (sym t ∙ there-in d name 0 es asc (lead (other name) all) h .0))
+      go (no h) = omega (arith, lead-le (other name) all)
 
-  -- all rows that the search passes have another name or are another directory's
-  behind-passed : entryNamed d name es ≡ find (hasName d name) (drop (first + passed) es)
-  unfolding entryNamed
-  behind-passed = find-behind (entryUnder d 0) (hasName d name) under-missed es ∙ find-behind (otherName d name) (hasName d name) other-missed (drop first es) ∙ ap (find (hasName d name)) (drop-drop passed first es)
-
-  -- an entry of the directory that the search does not pass has the name
-  here-named : (i : ℕ) → i ≡ first + passed → i < length es → entryAt es i .parent ≡ d → hasName d name (entryAt es i) ≡ true
-  unfolding both
-  here-named i q h p =
-      let l : passed < length (drop first es) = rw (length-drop first es) (omega arith) in
-      let g : getD (drop first es) passed (readEntry []) ≡ entryAt es i = getD-drop first es passed (readEntry []) ∙ ap (λ j. entryAt es j) (sym q) in
-      let o : otherName d name (entryAt es i) ≡ false = rw g at (lead-ends (otherName d name) (readEntry []) (drop first es) l) in
-      let e : eqb (entryAt es i .parent) d ≡ true = eq-eqb (entryAt es i .parent) d p in
-      sym (go-on _ _ e (go (same (entryAt es i .name) name) (rw e at o)))
+  pub entry-found : {p : ℕ} → found.At p ≡ entryFound d name es → (p < length es) × (entryNamed d name es ≡ some (entryAt es p))
+  unfolding entryFound foundFrom pick
+  entry-found {p} e = go (entryThere d es place) refl (e ∙ ap (foundFrom d es) place-there)
     where
-      go : (b : Bool) → both true (not b) ≡ false → true ≡ b
-      go true z = refl
-      go false z = absurd (false≢true (sym z))
+      go : (b : Bool) → entryThere d es place ≡ b → found.At p ≡ pick b (found.At place) found.Nothing → (p < length es) × (entryNamed d name es ≡ some (entryAt es p))
+      go true t q = let i : p ≡ place = cc in rw i (there-inside d es t, here (inside t))
+      go false t q = let x : _≡_ {A = ℕ} 0 1 = cc in absurd (omega arith)
 
-  -- behind an entry of another directory that the search does not pass, none is of this one
-  behind-other : (i : ℕ) → i ≡ first + passed → i < length es → (entryAt es i .parent ≡ d → ⊥) → Each (λ e. hasName d name e ≡ false) (drop i es)
-  behind-other i q h n =
-      let u : entryUnder d 0 (entryAt es i) ≡ false = go (entryUnder d 0 (entryAt es i)) refl in
-      each-map (λ e. entryUnder (suc d) 0 e ≡ false) (λ e. hasName d name e ≡ false) (λ e k. sym (stop _ _ (ne-eqb (e .parent) d (λ z. says-false (says-pair (e .parent) (e .index) (suc d) 0) k (inl (omega arith)))))) (drop i es)
-      (falls-drop (entryUnder (suc d) 0) (readEntry []) es i (asc-falls entryBefore (entryUnder (suc d) 0) (entry-falls (suc d) 0) es asc) h (false-says (says-pair (entryAt es i .parent) (entryAt es i .index) (suc d) 0) (high u)))
+  pub entry-missing : found.Nothing ≡ entryFound d name es → entryNamed d name es ≡ none
+  unfolding entryFound foundFrom pick
+  entry-missing e = go (entryThere d es place) refl (e ∙ ap (foundFrom d es) place-there)
     where
-      go : (b : Bool) → entryUnder d 0 (entryAt es i) ≡ b → entryUnder d 0 (entryAt es i) ≡ false
-      go true e = let l = lead-above (entryUnder d 0) es i (readEntry []) (asc-falls entryBefore (entryUnder d 0) (entry-falls d 0) es asc) h e in absurd (omega arith)
-      go false e = e
-
-      high : entryUnder d 0 (entryAt es i) ≡ false → PairBefore (entryAt es i .parent) (entryAt es i .index) (suc d) 0 → ⊥
-      high u (inr z) = not-suc-le-zero (z .1)
-      high u (inl z) = low (decLt (entryAt es i .parent) d)
-        where
-          low : Dec (entryAt es i .parent < d) → ⊥
-          low (yes k) = says-false (says-pair (entryAt es i .parent) (entryAt es i .index) d 0) u (inl k)
-          low (no k) = n (omega arith)
-
-  -- ---- where the search ends
-
-  found-first : (e : Entry) (rest : List Entry) → hasName d name e ≡ true → find (hasName d name) (e ∷ rest) ≡ some e
-  unfolding find
-  found-first e rest h = sym (pick-true _ _ _ _ h refl)
-
-  named-here : (i : ℕ) → i ≡ first + passed → (b : Bool) → entryThere d es i ≡ b → b ≡ true → (i < length es) × (entryNamed d name es ≡ some (entryAt es i))
-  unfolding entryThere
-  named-here i q b e t =
-      let p = both-true (ltb i (length es)) (eqb (entryAt es i .parent) d) (e ∙ t) in
-      let h : i < length es = ltb-true i (length es) (p .0) in
-      (h, behind-passed ∙ ap (λ j. find (hasName d name) (drop j es)) (sym q) ∙ ap (find (hasName d name)) (drop-cons es i (readEntry []) h) ∙ found-first (entryAt es i) (drop (suc i) es) (here-named i q h (eqb-true (entryAt es i .parent) d (p .1))))
-
-  none-left : (i : ℕ) → length es ≤ i → find (hasName d name) (drop i es) ≡ none
-  unfolding find
-  none-left i h = ap (find (hasName d name)) (drop-of-length-le es h)
-
-  named-nowhere : (i : ℕ) → i ≡ first + passed → entryThere d es i ≡ false → entryNamed d name es ≡ none
-  unfolding entryThere
-  named-nowhere i q e = behind-passed ∙ ap (λ j. find (hasName d name) (drop j es)) (sym q) ∙ go (decLt i (length es))
-    where
-      go : Dec (i < length es) → find (hasName d name) (drop i es) ≡ none
-      go (yes h) = find-none (hasName d name) (drop i es) (behind-other i q h (λ z. absurd (false≢true (sym e ∙ sym (go-on _ _ (lt-ltb i (length es) h) (sym (eq-eqb (entryAt es i .parent) d z)))))))
-      go (no h) = let k : length es ≤ i = omega arith in none-left i k
-
-  pub searched-found : {p k : ℕ} → At p k ≡ searched d name es → (p < length es) × (entryNamed d name es ≡ some (entryAt es p))
-  unfolding searched searchedFrom pick
-  searched-found {p} {k} e = go (entryThere d es (first + passed)) refl e
-    where
-      go : (b : Bool) → entryThere d es (first + passed) ≡ b → At p k ≡ pick b (At (first + passed) (passed + 1)) (Absent passed) → (p < length es) × (entryNamed d name es ≡ some (entryAt es p))
-      go true q z = let i : p ≡ first + passed = cc in named-here p i (entryThere d es p) refl (ap (entryThere d es) i ∙ q)
-      go false q z = let x : _≡_ {A = ℕ} 0 1 = cc in absurd (omega arith)
-
-  pub searched-absent : {k : ℕ} → Absent k ≡ searched d name es → entryNamed d name es ≡ none
-  unfolding searched searchedFrom pick
-  searched-absent {k} e = go (entryThere d es (first + passed)) refl e
-    where
-      go : (b : Bool) → entryThere d es (first + passed) ≡ b → Absent k ≡ pick b (At (first + passed) (passed + 1)) (Absent passed) → entryNamed d name es ≡ none
-      go true q z = let x : _≡_ {A = ℕ} 0 1 = cc in absurd (omega arith)
-      go false q z = named-nowhere (first + passed) refl q
+      go : (b : Bool) → entryThere d es place ≡ b → found.Nothing ≡ pick b (found.At place) found.Nothing → entryNamed d name es ≡ none
+      go true t q = let x : _≡_ {A = ℕ} 0 1 = cc in absurd (omega arith)
+      go false t q = nowhere (outside t)

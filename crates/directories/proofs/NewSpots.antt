@@ -30,19 +30,19 @@ use Rattle.volume.specs.Sound.{entryBefore}
 use Rattle.volume.specs.Steps.{NamesStep, remain}
 use Rattle.volume.proofs.PairOrder.{says-pair}
 use Rattle.tables.specs.Tables.{entryAt}
+use Rattle.tables.specs.declared.Found.{Found}
+use Rattle.tables.specs.declared.Found.the-variants as found
+use Rattle.tables.proofs.Found as FoundType
 use Rattle.tables.proofs.TableSearch.{entry-falls}
 use Rattle.names.specs.Entries.{entryNamed, greatest, onEntry}
 use Rattle.names.specs.Entering.{mostIndex, whereNew}
 use Rattle.names.proofs.Entered.{greatest-above, greatest-within}
-use Rattle.directories.specs.declared.searching.Searched.{Searched}
-use Rattle.directories.specs.declared.searching.Searched.the-variants as searched
 use Rattle.directories.specs.declared.entering.Spot.{Spot}
 use Rattle.directories.specs.declared.entering.NewSpot.{NewSpot}
 use Rattle.directories.specs.declared.entering.NewSpot.the-variants.{At, Refused}
-use Rattle.directories.specs.Searches.{searched}
+use Rattle.directories.specs.Searches.{entryFound}
 use Rattle.directories.specs.Spots.{pastIndexes, newSpot, spotFound}
-use Rattle.directories.proofs.searching.Searched.{the-type}
-use Rattle.directories.proofs.NamedEntry.{searched-found, searched-absent}
+use Rattle.directories.proofs.NamedEntry.{entry-found, entry-missing}
 use Rattle.names.specs.Enterable.{Enterable}
 
 -- ---- pairs in order
@@ -144,15 +144,15 @@ module _ (d : ℕ) (es : List Entry) (asc : Asc entryBefore es) (fits : Each Ent
 -- ---- the ends of the search for a spot
 
 module _ (d : ℕ) (name : List ℕ) (full : Bool) (es : List Entry) (asc : Asc entryBefore es) where
-  pub spot-taken : (r : Searched) → tagOf the-type r ≡ 0 → r ≡ searched d name es → Refused NameExists ≡ spotFound d name full es
+  pub spot-taken : (r : Found) → tagOf FoundType.the-type r ≡ 0 → r ≡ entryFound d name es → Refused NameExists ≡ spotFound d name full es
   unfolding spotFound onEntry
-  spot-taken (searched.At p k) t h = rw (searched-found d name es asc h .1) refl
-  spot-taken (searched.Absent k) t h = absurd (omega arith)
+  spot-taken (found.At p) t h = rw (entry-found d name es asc h .1) refl
+  spot-taken found.Nothing t h = absurd (omega arith)
 
   -- the name is new
-  pub spot-new : (r : Searched) → tagOf the-type r ≡ 1 → r ≡ searched d name es → entryNamed d name es ≡ none
-  spot-new (searched.At p k) t h = absurd (omega arith)
-  spot-new (searched.Absent k) t h = searched-absent d name es asc h
+  pub spot-new : (r : Found) → tagOf FoundType.the-type r ≡ 1 → r ≡ entryFound d name es → entryNamed d name es ≡ none
+  spot-new (found.At p) t h = absurd (omega arith)
+  spot-new found.Nothing t h = entry-missing d name es asc h
 
   module _ (new : entryNamed d name es ≡ none) where
     pub spot-full : full ≡ true → Refused NoRowRoom ≡ spotFound d name full es

@@ -1,63 +1,57 @@
 -- The place of the next entry is that of the definition's: the one with the least index at or above the one asked for.
 -- Assumes nothing.
-use mathlib.Core.Path.{_≡_, refl, sym, _∙_}
+use mathlib.Core.Path.{_≡_, refl, sym, ap, _∙_}
 use mathlib.Core.Bool.{Bool, true, false, false≢true}
 use mathlib.Core.List.{List, []}
 use mathlib.Core.Logic.{inl, inr}
-use mathlib.Core.Option.{none, some}
+use mathlib.Core.Option.{Option, none, some}
 use Prim.Native.Nat.{ℕ, _≤_, _<_}
 use native.Mathlib.Omega.{arith}
 use native.Mathlib.Decide.{decLt}
 use lib.Dec.{eqb, ltb}
 use lib.ListN.{length}
+use denote.Enum.Declared.{tagOf}
 use borrow.Author.Tests.{eq-eqb, ne-eqb, lt-ltb, ltb-true, eqb-true}
-use Rattle.words.specs.Rules.{pick, Says}
-use Rattle.words.specs.Tables.{lead, find, Asc}
+use Rattle.words.specs.Rules.{pick}
+use Rattle.words.specs.Tables.{lead, Asc}
 use Rattle.words.proofs.Joined.{both-true}
 use Rattle.words.proofs.Order.{asc-map}
-use Rattle.words.proofs.Rules.{says-true, true-says, says-false, false-says, says-both, says-eqb, says-leb, stop, go-on}
+use Rattle.words.proofs.Rules.{true-says, says-false, false-says, stop, go-on}
 use Rattle.words.proofs.Search.{asc-falls, find-found, find-missing, lead-ends}
+use Rattle.types.specs.declared.Answer.{Answer}
+use Rattle.types.specs.declared.Answer.the-variants as answer
 use Rattle.types.specs.declared.Error.{Error}
 use Rattle.types.specs.declared.Error.the-variants.{NoSuchEntry, NotDirectory}
 use Rattle.types.specs.declared.NodeRecord.{NodeRecord}
 use Rattle.types.specs.Nodes.{isDirectory}
+use Rattle.types.proofs.Answer as AnswerType
 use Rattle.volume.specs.Rows.{Entry, readEntry}
 use Rattle.volume.specs.Search.{PairBefore, entryUnder}
 use Rattle.volume.specs.Volume.{Names}
 use Rattle.volume.specs.Sound.{node, entryBefore, Named}
 use Rattle.volume.proofs.PairOrder.{says-pair}
-use Rattle.tables.specs.Tables.{nodeAt, entryAt, foundNode}
-use Rattle.tables.specs.declared.Found.{Found}
-use Rattle.tables.specs.declared.Found.the-variants as found
-use Rattle.tables.proofs.TableSearch.{entry-falls, node-found, node-absent}
+use Rattle.tables.specs.Tables.{entryAt}
+use Rattle.tables.proofs.TableSearch.{entry-falls}
 use Rattle.names.specs.Entries.{fromIndex, entryFrom, onEntry}
 use Rattle.names.specs.Listing.{Listed, listed, unlisted, onDirectory, nextEntry}
+use Rattle.names.proofs.EntryRuns.{says-from, under-out}
 use Rattle.directories.specs.declared.listing.NextPlace.{NextPlace}
 use Rattle.directories.specs.declared.listing.NextPlace.the-variants as next
-use Rattle.directories.specs.Searches.{entryThere, nextIn, nextOf, nextPlace}
+use Rattle.directories.specs.Searches.{directoryThere, entryThere, nextIn, nextPlace}
+use Rattle.directories.proofs.EntrySearch.{directory-refused, directory-goes-on}
 
 -- ---- among the entries
 
 module _ (d from : ℕ) (es : List Entry) (asc : Asc entryBefore es) where
-  says-from : (e : Entry) → Says ((e .parent ≡ d) × (from ≤ e .index)) (fromIndex d from e)
-  says-from e = says-both (says-eqb (e .parent) d) (says-leb from (e .index))
-
-  under-not-from : (e : Entry) → entryUnder d from e ≡ true → fromIndex d from e ≡ false
-  under-not-from e u = false-says (says-from e) (λ p. go p (says-true (says-pair (e .parent) (e .index) d from) u))
-    where
-      go : (e .parent ≡ d) × (from ≤ e .index) → PairBefore (e .parent) (e .index) d from → ⊥
-      go p (inl l) = omega arith
-      go p (inr q) = omega arith
-
   -- an entry at or behind the key that is not from it on is another directory's, and so are all behind it
   none-behind : (a b : Entry) → entryBefore a b → entryUnder d from a ≡ false → fromIndex d from a ≡ false → fromIndex d from b ≡ false
-  none-behind a b o u n = false-says (says-from b) (λ q. go o q)
+  none-behind a b o u n = false-says (says-from d from b) (λ q. go o q)
     where
       not-before : PairBefore (a .parent) (a .index) d from → ⊥
       not-before = says-false (says-pair (a .parent) (a .index) d from) u
 
       not-from : (a .parent ≡ d) × (from ≤ a .index) → ⊥
-      not-from = says-false (says-from a) n
+      not-from = says-false (says-from d from a) n
 
       go : entryBefore a b → (b .parent ≡ d) × (from ≤ b .index) → ⊥
       go (inl l) q = not-before (inl (omega arith))
@@ -80,7 +74,7 @@ module _ (d from : ℕ) (es : List Entry) (asc : Asc entryBefore es) where
   from-there t =
       let p = both-true (ltb place (length es)) (eqb (entryAt es place .parent) d) t in
       let h : place < length es = ltb-true place (length es) (p .0) in
-      (h, find-found (entryUnder d from) (fromIndex d from) (readEntry []) under-not-from es h (true-says (says-from (entryAt es place)) (here h (eqb-true (entryAt es place .parent) d (p .1)))))
+      (h, find-found (entryUnder d from) (fromIndex d from) (readEntry []) (under-out d from) es h (true-says (says-from d from (entryAt es place)) (here h (eqb-true (entryAt es place .parent) d (p .1)))))
     where
       here : place < length es → entryAt es place .parent ≡ d → (entryAt es place .parent ≡ d) × (from ≤ entryAt es place .index)
       here h e = (e, go (decLt (entryAt es place .index) from))
@@ -92,9 +86,20 @@ module _ (d from : ℕ) (es : List Entry) (asc : Asc entryBefore es) where
   from-nowhere : entryThere d es place ≡ false → entryFrom d from es ≡ none
   unfolding entryThere entryFrom
   from-nowhere t =
-      find-missing (entryUnder d from) (fromIndex d from) (readEntry []) under-not-from es (asc-falls entryBefore (entryUnder d from) (entry-falls d from) es asc)
+      find-missing (entryUnder d from) (fromIndex d from) (readEntry []) (under-out d from) es (asc-falls entryBefore (entryUnder d from) (entry-falls d from) es asc)
       (asc-map entryBefore (λ a b. entryUnder d from a ≡ false → fromIndex d from a ≡ false → fromIndex d from b ≡ false) none-behind es asc)
       (λ h. sym (stop _ _ (ne-eqb (entryAt es place .parent) d (λ e. false≢true (sym t ∙ sym (go-on _ _ (lt-ltb place (length es) h) (sym (eq-eqb (entryAt es place .parent) d e))))))))
+
+-- ---- the call, as code finds it
+
+module _ (d from : ℕ) (a : Names) {there : Answer} (h : there ≡ directoryThere d a) where
+  pub next-refused : {e : Error} → there ≡ answer.Refused e → next.Refused e ≡ nextPlace d from a
+  unfolding nextPlace
+  next-refused k = directory-refused d a next.Refused _ h k
+
+  pub next-goes-on : tagOf AnswerType.the-type there ≡ 0 → {p : ℕ} {x : NextPlace} → p ≡ lead (entryUnder d from) (a .entries) → x ≡ nextIn d (a .entries) p → x ≡ nextPlace d from a
+  unfolding nextPlace
+  next-goes-on t e q = directory-goes-on d a next.Refused _ h t (q ∙ ap (nextIn d (a .entries)) e)
 
 -- ---- the call
 
@@ -122,12 +127,12 @@ module _ (d from : ℕ) (a : Names) (named : Named a) where
   of-row r false e = shows-refusal NotDirectory
 
   next-shows : Shows es (nextPlace d from a) (nextEntry d from a)
-  unfolding nextPlace nextEntry node
-  next-shows = go (foundNode d (a .nodes)) refl
+  unfolding nextPlace nextEntry onDirectory
+  next-shows = go (node d a)
     where
-      go : (f : Found) → f ≡ foundNode d (a .nodes) → Shows es (nextOf d from a f) (onDirectory unlisted (λ r. onEntry (unlisted NoSuchEntry) listed (entryFrom d from es)) (find (λ r. eqb (r .node) d) (a .nodes)))
-      go (found.At i) e = unfold nextOf onDirectory in rw (node-found d (a .nodes) i e .1) (of-row (nodeAt (a .nodes) i) (isDirectory (nodeAt (a .nodes) i .kind)) refl)
-      go found.Nothing e = unfold nextOf onDirectory in rw (node-absent d (a .nodes) (named .nodeOrder) e) (shows-refusal NoSuchEntry)
+      go : (o : Option NodeRecord) → Shows es (onDirectory next.Refused (λ r. nextIn d es first) o) (onDirectory unlisted (λ r. onEntry (unlisted NoSuchEntry) listed (entryFrom d from es)) o)
+      go none = shows-refusal NoSuchEntry
+      go (some r) = of-row r (isDirectory (r .kind)) refl
 
   module _ {r : NextPlace} (h : r ≡ nextPlace d from a) where
     pub next-listed : {p : ℕ} → r ≡ next.At p → (p < length es) × (listed (entryAt es p) ≡ nextEntry d from a)
@@ -138,8 +143,8 @@ module _ (d from : ℕ) (a : Names) (named : Named a) where
         go _ _ (shows-refusal x) e = let z : _≡_ {A = ℕ} 0 1 = cc in absurd (omega arith)
 
     pub next-first : {p : ℕ} → r ≡ next.At p → p ≡ first
-    unfolding nextPlace
-    next-first {p} k = go (foundNode d (a .nodes)) (sym k ∙ h)
+    unfolding nextPlace onDirectory
+    next-first {p} k = go (node d a) (sym k ∙ h)
       where
         in-there : (b : Bool) → next.At p ≡ pick b (next.At first) (next.Refused NoSuchEntry) → p ≡ first
         in-there true e = unfold pick in cc
@@ -149,9 +154,9 @@ module _ (d from : ℕ) (a : Names) (named : Named a) where
         row true e = unfold pick nextIn in in-there (entryThere d es first) e
         row false e = let z : _≡_ {A = ℕ} 0 1 = unfold pick in cc in absurd (omega arith)
 
-        go : (f : Found) → next.At p ≡ nextOf d from a f → p ≡ first
-        go (found.At i) e = unfold nextOf in row (isDirectory (nodeAt (a .nodes) i .kind)) e
-        go found.Nothing e = let z : _≡_ {A = ℕ} 0 1 = unfold nextOf in cc in absurd (omega arith)
+        go : (o : Option NodeRecord) → next.At p ≡ onDirectory next.Refused (λ r. nextIn d es first) o → p ≡ first
+        go none e = let z : _≡_ {A = ℕ} 0 1 = cc in absurd (omega arith)
+        go (some r) e = row (isDirectory (r .kind)) e
 
     pub next-unlisted : {e : Error} → r ≡ next.Refused e → unlisted e ≡ nextEntry d from a
     next-unlisted {e} k = go (nextPlace d from a) (nextEntry d from a) next-shows (sym k ∙ h)

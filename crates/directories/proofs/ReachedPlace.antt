@@ -21,26 +21,24 @@ use Rattle.tables.specs.Tables.{foundNode}
 use Rattle.tables.specs.declared.Found.{Found}
 use Rattle.tables.specs.declared.Found.the-variants as found
 use Rattle.names.specs.Walks.{onCutting}
-use Rattle.directories.specs.declared.searching.Searched.{Searched}
-use Rattle.directories.specs.declared.searching.Searched.the-variants as searched
 use Rattle.directories.specs.declared.finding.Reached.{Reached}
 use Rattle.directories.specs.declared.finding.Reached.the-variants.{At, Stopped}
-use Rattle.directories.specs.Searches.{searched}
+use Rattle.directories.specs.Searches.{entryFound}
 use Rattle.directories.specs.Reaches.{reachedBy, reach, reachNext, reachAll, reachOf, reachFrom, reachPath}
-use Rattle.directories.proofs.NamedEntry.{searched-found}
+use Rattle.directories.proofs.NamedEntry.{entry-found}
 
 module _ (es : List Entry) (asc : Asc entryBefore es) where
   one-inside : (n : ℕ) (part : List ℕ) {m q : ℕ} → At m q ≡ reach es n part → q < length es
   unfolding reach reachedBy pick
   one-inside n part {m} {q} e = go (ltb mostName (length part)) e
     where
-      named : (s : Searched) → s ≡ searched n part es → At m q ≡ reachedBy es s → q < length es
-      named (searched.At i k) h z = let j : q ≡ i = cc in rw j (searched-found n part es asc h .0)
-      named (searched.Absent k) h z = let x : _≡_ {A = ℕ} 0 1 = cc in absurd (omega arith)
+      named : (s : Found) → s ≡ entryFound n part es → At m q ≡ reachedBy es s → q < length es
+      named (found.At i) h z = let j : q ≡ i = cc in rw j (entry-found n part es asc h .0)
+      named found.Nothing h z = let x : _≡_ {A = ℕ} 0 1 = cc in absurd (omega arith)
 
-      go : (b : Bool) → At m q ≡ pick b (Stopped BadName) (reachedBy es (searched n part es)) → q < length es
+      go : (b : Bool) → At m q ≡ pick b (Stopped BadName) (reachedBy es (entryFound n part es)) → q < length es
       go true z = let x : _≡_ {A = ℕ} 0 1 = cc in absurd (omega arith)
-      go false z = named (searched n part es) refl z
+      go false z = named (entryFound n part es) refl z
 
   next-inside : (r : Reached) (part : List ℕ) {m q : ℕ} → At m q ≡ reachNext es r part → q < length es
   unfolding reachNext

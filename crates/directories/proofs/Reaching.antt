@@ -27,15 +27,12 @@ use Rattle.tables.proofs.Found as FoundType
 use Rattle.tables.proofs.TableSearch.{node-found, node-absent}
 use Rattle.names.specs.Entries.{entryNamed, onEntry}
 use Rattle.names.specs.Walks.{Walk, reached, stopped, walkParts, onStart, walkFrom}
-use Rattle.directories.specs.declared.searching.Searched.{Searched}
-use Rattle.directories.specs.declared.searching.Searched.the-variants as searched
 use Rattle.directories.specs.declared.finding.Reached.{Reached}
 use Rattle.directories.specs.declared.finding.Reached.the-variants.{At, Stopped}
-use Rattle.directories.specs.Searches.{searched}
+use Rattle.directories.specs.Searches.{entryFound}
 use Rattle.directories.specs.Reaches.{reachedBy, reach, reachNext, reachAll, reachOf, reachFrom}
 use Rattle.directories.proofs.finding.Reached as ReachedType
-use Rattle.directories.proofs.searching.Searched.{the-type}
-use Rattle.directories.proofs.NamedEntry.{searched-found, searched-absent}
+use Rattle.directories.proofs.NamedEntry.{entry-found, entry-missing}
 use Rattle.paths.specs.Shown.{shownFrom, shownParts}
 
 -- ---- one part
@@ -46,12 +43,12 @@ module _ (es : List Entry) (n : ℕ) (p : List ℕ) where
   reach-long h = pick-true _ _ _ _ (lt-ltb mostName (length p) h) refl
 
   module _ (h : length p ≤ mostName) where
-    pub reach-none : (r : Searched) → tagOf the-type r ≡ 1 → r ≡ searched n p es → Stopped NoSuchEntry ≡ reach es n p
+    pub reach-none : (r : Found) → tagOf FoundType.the-type r ≡ 1 → r ≡ entryFound n p es → Stopped NoSuchEntry ≡ reach es n p
     unfolding reach reachedBy
-    reach-none (searched.At q k) t e = absurd (omega arith)
-    reach-none (searched.Absent k) t e = pick-false _ _ _ _ (le-ltb mostName (length p) h) (rw (← e) refl)
+    reach-none (found.At q) t e = absurd (omega arith)
+    reach-none found.Nothing t e = pick-false _ _ _ _ (le-ltb mostName (length p) h) (rw (← e) refl)
 
-    pub reach-at : {q k m : ℕ} → searched.At q k ≡ searched n p es → m ≡ entryAt es q .node → At m q ≡ reach es n p
+    pub reach-at : {q m : ℕ} → found.At q ≡ entryFound n p es → m ≡ entryAt es q .node → At m q ≡ reach es n p
     unfolding reach reachedBy
     reach-at e i = pick-false _ _ _ _ (le-ltb mostName (length p) h) (rw (← e, i) refl)
 
@@ -126,14 +123,14 @@ module _ (es : List Entry) (asc : Asc entryBefore es) where
   unfolding walkParts reachAll reachNext reach pick
   part-shows n p k last q ps on = go (ltb mostName (length q))
     where
-      found : (s : Searched) → s ≡ searched n q es → onEntry (stopped NoSuchEntry) (λ e. walkParts es (e .node) (some e) ps) (entryNamed n q es) ≡ walkShown es (suc k) (reachAll es (reachedBy es s) ps)
-      found (searched.At r j) e = unfold onEntry reachedBy in rw (searched-found n q es asc e .1) (on (entryAt es r .node) r)
-      found (searched.Absent j) e = unfold onEntry reachedBy walkShown in rw (searched-absent n q es asc e, stops es NoSuchEntry ps) refl
+      of-part : (s : Found) → s ≡ entryFound n q es → onEntry (stopped NoSuchEntry) (λ e. walkParts es (e .node) (some e) ps) (entryNamed n q es) ≡ walkShown es (suc k) (reachAll es (reachedBy es s) ps)
+      of-part (found.At r) e = unfold onEntry reachedBy in rw (entry-found n q es asc e .1) (on (entryAt es r .node) r)
+      of-part found.Nothing e = unfold onEntry reachedBy walkShown in rw (entry-missing n q es asc e, stops es NoSuchEntry ps) refl
 
       go : (b : Bool) → pick b (stopped BadName) (onEntry (stopped NoSuchEntry) (λ e. walkParts es (e .node) (some e) ps) (entryNamed n q es))
-          ≡ walkShown es (suc k) (reachAll es (pick b (Stopped BadName) (reachedBy es (searched n q es))) ps)
+          ≡ walkShown es (suc k) (reachAll es (pick b (Stopped BadName) (reachedBy es (entryFound n q es))) ps)
       go true = unfold walkShown in rw (stops es BadName ps) refl
-      go false = found (searched n q es) refl
+      go false = of-part (entryFound n q es) refl
 
   parts-show : (ps : List (List ℕ)) (k n p : ℕ) → walkParts es n (some (entryAt es p)) ps ≡ walkShown es (suc k) (reachAll es (At n p) ps)
   unfolding walkParts reachAll walkShown

@@ -14,20 +14,18 @@ use Rattle.tables.specs.Tables.{entryAt, foundNode}
 use Rattle.tables.specs.declared.Found.{Found}
 use Rattle.tables.specs.declared.Found.the-variants as found
 use Rattle.names.specs.Walks.{onCutting}
-use Rattle.directories.specs.declared.searching.Searched.{Searched}
-use Rattle.directories.specs.declared.searching.Searched.the-variants as searched
 use Rattle.directories.specs.declared.finding.Reached.{Reached}
 use Rattle.directories.specs.declared.finding.Reached.the-variants.{At, Stopped}
-use Rattle.directories.specs.Searches.{searched}
+use Rattle.directories.specs.Searches.{entryFound}
 
 -- what a search gives
-unfoldable pub reachedBy : List Entry → Searched → Reached
-reachedBy es (searched.At p k) = At (entryAt es p .node) p
-reachedBy es (searched.Absent k) = Stopped NoSuchEntry
+unfoldable pub reachedBy : List Entry → Found → Reached
+reachedBy es (found.At p) = At (entryAt es p .node) p
+reachedBy es found.Nothing = Stopped NoSuchEntry
 
 -- one part, from a node
 unfoldable pub reach : List Entry → ℕ → List ℕ → Reached
-reach es n part = pick (ltb mostName (length part)) (Stopped BadName) (reachedBy es (searched n part es))
+reach es n part = pick (ltb mostName (length part)) (Stopped BadName) (reachedBy es (entryFound n part es))
 
 -- a part more, from what was reached
 unfoldable pub reachNext : List Entry → Reached → List ℕ → Reached

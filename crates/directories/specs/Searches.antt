@@ -8,18 +8,24 @@ use lib.ListN.{length, drop}
 use Rattle.words.specs.Rules.{pick, both, same}
 use Rattle.words.specs.Tables.{lead}
 use Rattle.types.specs.declared.Error.the-variants.{NoSuchEntry}
-use Rattle.types.specs.declared.Error.the-variants as error
-use Rattle.types.specs.Nodes.{isDirectory}
+use Rattle.types.specs.declared.Answer.{Answer}
+use Rattle.types.specs.declared.Answer.the-variants.{Done, Refused}
 use Rattle.volume.specs.Rows.{Entry}
 use Rattle.volume.specs.Search.{entryUnder}
 use Rattle.volume.specs.Volume.{Names}
-use Rattle.tables.specs.Tables.{nodeAt, entryAt, foundNode}
+use Rattle.volume.specs.Sound.{node}
+use Rattle.tables.specs.Tables.{entryAt}
 use Rattle.tables.specs.declared.Found.{Found}
 use Rattle.tables.specs.declared.Found.the-variants as found
+use Rattle.names.specs.Listing.{onDirectory}
 use Rattle.directories.specs.declared.searching.Searched.{Searched}
-use Rattle.directories.specs.declared.searching.Searched.the-variants.{At, Absent}
+use Rattle.directories.specs.declared.searching.Searched.the-variants.{At, Absent, Stopped}
 use Rattle.directories.specs.declared.listing.NextPlace.{NextPlace}
 use Rattle.directories.specs.declared.listing.NextPlace.the-variants as next
+
+-- a node is there and is a directory: nothing to tell, or why not
+unfoldable pub directoryThere : ℕ → Names → Answer
+directoryThere d a = onDirectory Refused (λ r. Done 0) (node d a)
 
 -- an entry of the directory that has another name
 abbrev pub otherName : ℕ → List ℕ → Entry → Bool
@@ -29,21 +35,27 @@ otherName d name e = both (eqb (e .parent) d) (not (same (e .name) name))
 unfoldable pub entryThere : ℕ → List Entry → ℕ → Bool
 entryThere d es p = both (ltb p (length es)) (eqb (entryAt es p .parent) d)
 
--- so many have another name from the first on; the next one is it, if it is the directory's
-unfoldable pub searchedFrom : ℕ → List Entry → ℕ → ℕ → Searched
-searchedFrom d es first k = pick (entryThere d es (first + k)) (At (first + k) (k + 1)) (Absent k)
+-- k have another name from the first on. Where the limit is above that, the next one is it, if it is the directory's; else as many as the limit
+-- were looked at, and the next one is left, if it is the directory's
+unfoldable pub searchedFrom : ℕ → List Entry → ℕ → ℕ → ℕ → Searched
+searchedFrom d es first most k =
+    pick (ltb k most) (pick (entryThere d es (first + k)) (At (first + k) (k + 1)) (Absent k))
+    (pick (entryThere d es (first + most)) (Stopped (first + most) most) (Absent most))
 
-unfoldable pub searched : ℕ → List ℕ → List Entry → Searched
-searched d name es = searchedFrom d es (lead (entryUnder d 0) es) (lead (otherName d name) (drop (lead (entryUnder d 0) es) es))
+unfoldable pub searched : ℕ → List ℕ → ℕ → ℕ → List Entry → Searched
+searched d name from most es = searchedFrom d es (lead (entryUnder d from) es) most (lead (otherName d name) (drop (lead (entryUnder d from) es) es))
+
+-- the place of the entry that has a name
+unfoldable pub foundFrom : ℕ → List Entry → ℕ → Found
+foundFrom d es p = pick (entryThere d es p) (found.At p) found.Nothing
+
+unfoldable pub entryFound : ℕ → List ℕ → List Entry → Found
+entryFound d name es = foundFrom d es (lead (entryUnder d 0) es + lead (otherName d name) (drop (lead (entryUnder d 0) es) es))
 
 -- ---- the place of the next entry
 
 unfoldable pub nextIn : ℕ → List Entry → ℕ → NextPlace
 nextIn d es p = pick (entryThere d es p) (next.At p) (next.Refused NoSuchEntry)
 
-unfoldable pub nextOf : ℕ → ℕ → Names → Found → NextPlace
-nextOf d from a found.Nothing = next.Refused NoSuchEntry
-nextOf d from a (found.At i) = pick (isDirectory (nodeAt (a .nodes) i .kind)) (nextIn d (a .entries) (lead (entryUnder d from) (a .entries))) (next.Refused error.NotDirectory)
-
 unfoldable pub nextPlace : ℕ → ℕ → Names → NextPlace
-nextPlace d from a = nextOf d from a (foundNode d (a .nodes))
+nextPlace d from a = onDirectory next.Refused (λ r. nextIn d (a .entries) (lead (entryUnder d from) (a .entries))) (node d a)

@@ -1,5 +1,4 @@
 // A name put into a directory: of a new node, or of a node that is there.
-use crate::searching::Searched;
 use crate::searching::find_entry;
 use files::FileRow;
 use files::RowAt;
@@ -95,7 +94,7 @@ fn find_spot(volume: &[u8], layout: Layout, directory: u64, name: &[u8], full: b
     requires { ⌜ Ready (now volume) layout × Asc entryBefore (shown (now volume) .names .entries) ⌝ }
     ensures { λ r. ⌜ r ≡ spotFound directory (now (name .entry)) full (shown (now (volume .entry)) .names .entries) ⌝ }
 {
-    let Searched::Absent(_) = find_entry(volume, layout, directory, name) else {
+    let Found::Nothing = find_entry(volume, layout, directory, name) else {
         return NewSpot::Refused(Error::NameExists);
     };
     if full {

@@ -1,5 +1,4 @@
 // A path's parts looked up one by one, from a node on.
-use crate::searching::Searched;
 use crate::searching::find_entry;
 use paths::Cut;
 use tables::Found;
@@ -34,7 +33,7 @@ fn reach(volume: &[u8], layout: Layout, node: u64, part: &[u8]) -> Reached
         return Reached::Stopped(Error::BadName);
     }
     let found = find_entry(volume, layout, node, part);
-    let Searched::At(place, _) = found else {
+    let Found::At(place) = found else {
         return Reached::Stopped(Error::NoSuchEntry);
     };
     Reached::At(tables::entry_node(volume, layout, place), place)

@@ -12,4 +12,5 @@ pub use finding::find_node;
 pub use listing::NextPlace;
 pub use listing::next_place;
 pub use removing::remove;
+pub use searching::search;
 pub use unlinking::unlink;

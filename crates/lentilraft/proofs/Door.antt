@@ -29,7 +29,7 @@ use Rattle.soundness.proofs.Checked.{says-sound}
 use Rattle.names.specs.Unlinking as Unlinking
 use Rattle.lentilraft.specs.declared.naming.Wanted.{Wanted}
 use Rattle.lentilraft.specs.declared.naming.Wanted.the-variants.{Known, Unknown}
-use Rattle.lentilraft.specs.Door.{ifSound, door, doorInto, check, setChunkSize, setLimit, read, resize, write, findNode, create, link, unlink, wantedOf, unlinkWanted, unlinkByte, remove}
+use Rattle.lentilraft.specs.Door.{ifSound, door, doorInto, check, setChunkSize, setLimit, read, resize, write, findNode, search, create, link, unlink, wantedOf, unlinkWanted, unlinkByte, remove}
 use Rattle.lentilraft.proofs.naming.Wanted as WantedType
 use Rattle.lentilraft.specs.Report.{text, leastOutput, reported, report}
 
@@ -114,6 +114,9 @@ one-write n offset bs l = one-outcome (write n offset bs l)
 
 pub one-find-node : (start : ℕ) (path l : List ℕ) → OneOutcome (findNode start path l)
 one-find-node start path l = one-outcome (findNode start path l)
+
+pub one-search : (d : ℕ) (name : List ℕ) (from most : ℕ) (l : List ℕ) → OneOutcome (search d name from most l)
+one-search d name from most l = one-outcome (search d name from most l)
 
 pub one-create : (p : ℕ) (name : List ℕ) (byte : ℕ) (l : List ℕ) → OneOutcome (create p name byte l)
 one-create p name byte l = one-outcome (create p name byte l)

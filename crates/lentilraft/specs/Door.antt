@@ -12,6 +12,8 @@ use Rattle.types.specs.declared.Answer.{Answer}
 use Rattle.types.specs.declared.Answer.the-variants.{Done, Refused}
 use Rattle.types.specs.declared.Error.{Error}
 use Rattle.types.specs.declared.Error.the-variants.{UnsoundMemory, InvalidArgument}
+use Rattle.types.specs.declared.Search.{Search}
+use Rattle.types.specs.declared.Search.the-variants as told
 use Rattle.types.specs.Outcomes.{Outcome, outcome, refused}
 use Rattle.allocator.specs.Allocator as Allocator
 use Rattle.volume.specs.Volume.{Volume, shown, laid, withAllocator, onStore}
@@ -22,6 +24,7 @@ use Rattle.files.specs.Write as Write
 use Rattle.files.specs.Resize as Resize
 use Rattle.names.specs.Walks as Walks
 use Rattle.names.specs.Listing as Listing
+use Rattle.names.specs.Searching as Searching
 use Rattle.names.specs.Entering as Entering
 use Rattle.names.specs.Unlinking as Unlinking
 use Rattle.names.specs.Removing as Removing
@@ -72,6 +75,9 @@ findNode start path l = ifSound l (λ e. Refused e) (λ v. Walks.findNode start 
 
 unfoldable pub nextEntry : ℕ → ℕ → List ℕ → Listing.Listed
 nextEntry d from l = ifSound l (λ e. Listing.unlisted e) (λ v. Listing.nextEntry d from (v .names))
+
+unfoldable pub search : ℕ → List ℕ → ℕ → ℕ → List ℕ → Search
+search d name from most l = ifSound l (λ e. told.Refused e) (λ v. Searching.search d name from most (v .names))
 
 unfoldable pub create : ℕ → List ℕ → ℕ → List ℕ → Outcome
 create p name byte l = door l (nameStep (Entering.create p name byte))

@@ -11,6 +11,7 @@ pub use naming::link;
 pub use naming::next_entry;
 pub use naming::next_name;
 pub use naming::remove;
+pub use naming::search;
 pub use naming::unlink;
 pub use naming::unlink_byte;
 use types::Answer;

@@ -3,10 +3,11 @@ use directories::NextPlace;
 use types::Answer;
 use types::Error;
 use types::Expected;
+use types::Search;
 use volume::Place;
 ghost use mathlib.Core.Path.{_≡_};
 ghost use Rattle.types.specs.Outcomes.{outcome};
-ghost use Rattle.lentilraft.specs.Door.{findNode, nextEntry, create, link, wantedOf, unlink, unlinkByte, remove};
+ghost use Rattle.lentilraft.specs.Door.{findNode, nextEntry, search, create, link, wantedOf, unlink, unlinkByte, remove};
 ghost use Rattle.lentilraft.specs.EntryGiven.{GivesEntry, nextName};
 
 // Where an entry's name stands in the volume, and what the entry says.
@@ -100,6 +101,17 @@ pub fn next_name(volume: &[u8], directory: u64, from: u32) -> NextName
         index: tables::entry_index(volume, layout, place) as u32,
         node: tables::entry_node(volume, layout, place),
     })
+}
+
+// Searches a directory for a name from an index on, looking at no more than so many entries; answers the entry, that there is none, or the
+// first index not looked at, and how many entries were looked at.
+pub fn search(volume: &[u8], directory: u64, name: &[u8], from: u32, most: u64) -> Search
+    ensures { λ r. ⌜ r ≡ search directory (now (name .entry)) from most (now (volume .entry)) ⌝ }
+{
+    let Place::At(layout) = soundness::open(volume) else {
+        return Search::Refused(Error::UnsoundMemory);
+    };
+    directories::search(volume, layout, directory, name, from as u64, most)
 }
 
 // Makes a node of a type and names it in a directory; answers the node.

@@ -9,3 +9,6 @@ pub mod Unlinked
 pub mod UnlinkedNames
 pub mod Removed
 pub mod EntryLaws
+pub mod LookedThrough
+pub mod EntryRuns
+pub mod SearchLaws

@@ -7,10 +7,12 @@ use Rattle.types.specs.Answers.{errorNumber, number, value}
 use Rattle.types.specs.Outcomes.{Outcome, outcome}
 use Rattle.types.specs.declared.Answer.{Answer}
 use Rattle.types.specs.declared.Error.{Error}
+use Rattle.types.specs.declared.Search.{Search}
+use Rattle.types.specs.declared.Search.the-variants as search
 use Rattle.lentilraft.specs.declared.naming.NameAt.{NameAt}
 use Rattle.lentilraft.specs.declared.naming.NextName.{NextName}
 use Rattle.lentilraft.specs.declared.naming.NextName.the-variants.{At, Refused}
-use Rattle.rim.specs.Given.{Gives, GivesCount, GivesValue, GivesName}
+use Rattle.rim.specs.Given.{Gives, GivesCount, GivesValue, GivesName, GivesSearch}
 
 -- ---- given
 
@@ -32,6 +34,20 @@ module _ {n o : NextName} (e : n ≡ o) where
   pub gives-no-name : {x : Error} {r : ℕ} → n ≡ Refused x → r ≡ errorNumber x → GivesName o r 0 0 0 0
   gives-no-name k h = rw (← e, k) (record { number = h; start = refl; length = refl; indexed = refl; noded = refl })
 
+-- the four cases of a search
+module _ {s o : Search} (e : s ≡ o) where
+  pub gives-found : {i n k : ℕ} → s ≡ search.Found i n k → GivesSearch o 0 1 i n k
+  gives-found k = rw (← e, k) (record { number = refl; case = refl; indexed = refl; noded = refl; counted = refl })
+
+  pub gives-absent : {k : ℕ} → s ≡ search.Absent k → GivesSearch o 0 0 0 0 k
+  gives-absent k = rw (← e, k) (record { number = refl; case = refl; indexed = refl; noded = refl; counted = refl })
+
+  pub gives-stopped : {i k : ℕ} → s ≡ search.Stopped i k → GivesSearch o 0 2 i 0 k
+  gives-stopped k = rw (← e, k) (record { number = refl; case = refl; indexed = refl; noded = refl; counted = refl })
+
+  pub gives-no-search : {x : Error} {r : ℕ} → s ≡ search.Refused x → r ≡ errorNumber x → GivesSearch o r 0 0 0 0
+  gives-no-search k h = rw (← e, k) (record { number = h; case = refl; indexed = refl; noded = refl; counted = refl })
+
 -- ---- one outcome
 
 pub one-given : {o : Outcome} {r s : ℕ} {l m : List ℕ} → Gives o r l → Gives o s m → (r ≡ s) × (l ≡ m)
@@ -45,3 +61,6 @@ one-valued a b = (a .number ∙ sym (b .number), a .told ∙ sym (b .told))
 
 pub one-named : {n : NextName} {r s a b l m i j x y : ℕ} → GivesName n r a l i x → GivesName n s b m j y → (r ≡ s) × (a ≡ b) × (l ≡ m) × (i ≡ j) × (x ≡ y)
 one-named p q = (p .number ∙ sym (q .number), p .start ∙ sym (q .start), p .length ∙ sym (q .length), p .indexed ∙ sym (q .indexed), p .noded ∙ sym (q .noded))
+
+pub one-searched : {o : Search} {r s f g i j x y k l : ℕ} → GivesSearch o r f i x k → GivesSearch o s g j y l → (r ≡ s) × (f ≡ g) × (i ≡ j) × (x ≡ y) × (k ≡ l)
+one-searched p q = (p .number ∙ sym (q .number), p .case ∙ sym (q .case), p .indexed ∙ sym (q .indexed), p .noded ∙ sym (q .noded), p .counted ∙ sym (q .counted))

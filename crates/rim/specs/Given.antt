@@ -4,8 +4,9 @@
 use mathlib.Core.Path.{_≡_}
 use mathlib.Core.List.{List}
 use Prim.Native.Nat.{ℕ}
-use Rattle.types.specs.Answers.{errorNumber, number, value}
+use Rattle.types.specs.Answers.{errorNumber, number, value, searchNumber, searchCase, searchIndex, searchNode, searchLooked}
 use Rattle.types.specs.declared.Answer.{Answer}
+use Rattle.types.specs.declared.Search.{Search}
 use Rattle.types.specs.Outcomes.{Outcome}
 use Rattle.lentilraft.specs.declared.naming.NameAt.{NameAt}
 use Rattle.lentilraft.specs.declared.naming.NextName.{NextName}
@@ -43,3 +44,12 @@ pub record GivesName (n : NextName) (r at long index node : ℕ) : Type 0 where
   pub length : long ≡ nextTold (λ x. x .long) n
   pub indexed : index ≡ nextTold (λ x. x .index) n
   pub noded : node ≡ nextTold (λ x. x .node) n
+
+-- ---- a search: what came of it, an index, a node, and how many entries were looked at
+
+pub record GivesSearch (s : Search) (r found index node looked : ℕ) : Type 0 where
+  pub number : r ≡ searchNumber s
+  pub case : found ≡ searchCase s
+  pub indexed : index ≡ searchIndex s
+  pub noded : node ≡ searchNode s
+  pub counted : looked ≡ searchLooked s

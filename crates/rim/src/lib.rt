@@ -2,15 +2,23 @@
 // nothing of its caller, and gives back 0 or the number of a refusal.
 use lentilraft::NextName;
 use types::Limit;
+use types::Search;
 ghost use mathlib.Core.Path.{_≡_};
 ghost use Rattle.types.specs.declared.Limit.the-variants.{Unlimited, AtMost};
 ghost use Rattle.types.specs.Answers.{number};
 ghost use Rattle.allocator.specs.Opening.{opened};
 ghost use Rattle.volume.specs.Fresh.{newVolume};
-ghost use Rattle.lentilraft.specs.Door.{check, setChunkSize, setLimit, read, resize, write, findNode, create, link, unlinkByte, remove};
+ghost use Rattle.lentilraft.specs.Door.{check, setChunkSize, setLimit, read, resize, write, findNode, search, create, link, unlinkByte, remove};
 ghost use Rattle.lentilraft.specs.EntryGiven.{nextName};
 ghost use Rattle.lentilraft.specs.Report.{report};
-ghost use Rattle.rim.specs.Given.{Gives, GivesCount, GivesValue, GivesName};
+ghost use Rattle.rim.specs.Given.{Gives, GivesCount, GivesValue, GivesName, GivesSearch};
+
+// What came of a search.
+const ABSENT: u32 = 0;
+
+const FOUND: u32 = 1;
+
+const STOPPED: u32 = 2;
 
 // Makes the memory a new volume with these rooms and this chunk size.
 #[no_mangle]
@@ -160,6 +168,49 @@ pub extern "C" fn lentilraft_next_entry(
             *node = 0;
             types::error_number(error)
         }
+    }
+}
+
+// Searches a directory for a name from an index on, looking at no more than so many entries. Through lent places go 1 and the entry's index
+// and node where it was found, 0 where no entry has the name, 2 and the index of the first entry that was not looked at; and how many were
+// looked at. Each is 0 for a refusal.
+#[no_mangle]
+pub extern "C" fn lentilraft_search(
+    volume: &[u8],
+    directory: u64,
+    name: &[u8],
+    from: u32,
+    most: u64,
+    found: &mut u32,
+    index: &mut u32,
+    node: &mut u64,
+    looked: &mut u64,
+) -> u32
+    ensures { λ r. ⌜ GivesSearch (search directory (now (name .entry)) from most (now (volume .entry))) r (now (found .exit)) (now (index .exit)) (now (node .exit)) (now (looked .exit)) ⌝ }
+{
+    *found = ABSENT;
+    *index = 0;
+    *node = 0;
+    *looked = 0;
+    match lentilraft::search(volume, directory, name, from, most) {
+        Search::Found(at, named, count) => {
+            *found = FOUND;
+            *index = at;
+            *node = named;
+            *looked = count;
+            0
+        }
+        Search::Absent(count) => {
+            *looked = count;
+            0
+        }
+        Search::Stopped(at, count) => {
+            *found = STOPPED;
+            *index = at;
+            *looked = count;
+            0
+        }
+        Search::Refused(error) => types::error_number(error),
     }
 }
 

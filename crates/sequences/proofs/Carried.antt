@@ -42,7 +42,7 @@ use Rattle.lentilraft.proofs.Refusal.{new-volume-refusal, set-chunk-size-refusa
 use Rattle.lentilraft.specs.Refusal.{RefusalLeaves}
 use Rattle.sequences.specs.Fs.{Fs}
 use Rattle.sequences.specs.Show.{nodeSeen, show}
-use Rattle.sequences.specs.Calls.{Lent, Call, newVolume, check, report, setChunkSize, read, write, resize, setLimit, findNode, nextEntry, create, link, unlink, remove}
+use Rattle.sequences.specs.Calls.{Lent, Call, newVolume, check, report, setChunkSize, read, write, resize, setLimit, findNode, nextEntry, search, create, link, unlink, remove}
 use Rattle.sequences.specs.Act.{emptyFs, act}
 use Rattle.sequences.specs.Run.{run, accepted}
 use Rattle.sequences.specs.GivenOut.{GoesOn}
@@ -202,6 +202,7 @@ carried (setLimit n m) l b h =
     record { bytes = d .bytes; sound = d .sound; shows = d .shows; able = λ q. tt; stays = d .stays; later = λ g. d .later }
 carried (findNode start path) l b h = record { bytes = b; sound = h; shows = λ q. refl; able = λ q. tt; stays = λ q. refl; later = λ g. later-same (shown l .store) }
 carried (nextEntry d from) l b h = record { bytes = b; sound = h; shows = λ q. refl; able = λ q. tt; stays = λ q. refl; later = λ g. later-same (shown l .store) }
+carried (search d name from most) l b h = record { bytes = b; sound = h; shows = λ q. refl; able = λ q. tt; stays = λ q. refl; later = λ g. later-same (shown l .store) }
 carried (create p name byte) l b h =
     let d = at-door _ _ (create-works p name byte) l b h (create-refusal p (name .list) byte l b) in
     record { bytes = d .bytes; sound = d .sound; shows = d .shows; able = λ q. create-able p name byte l h; stays = d .stays; later = λ g. d .later }

@@ -13,7 +13,7 @@ use Rattle.volume.specs.declared.kinds.Kind.the-variants.{Known, Unknown}
 use Rattle.volume.specs.Kinds.{kindOf}
 use Rattle.names.specs.Entering.{onKind}
 use Rattle.sequences.specs.Fs.{Fs}
-use Rattle.sequences.specs.Calls.{Call, newVolume, check, report, setChunkSize, read, write, resize, setLimit, findNode, nextEntry, create, link, unlink, remove}
+use Rattle.sequences.specs.Calls.{Call, newVolume, check, report, setChunkSize, read, write, resize, setLimit, findNode, nextEntry, search, create, link, unlink, remove}
 use Rattle.sequences.specs.Act.{NameIn, onName, pathName, changeAt, withWritten, createdAs, unlinkedFrom, act}
 use Rattle.sequences.specs.Changing.{ParentOrTarget, MayChange}
 use Rattle.sequences.proofs.Shown.{change-other, put-other}
@@ -34,6 +34,7 @@ act-leaves (resize n z) fs m h = change-other n _ fs m h
 act-leaves (setLimit n most) fs m h = change-other n _ fs m h
 act-leaves (findNode start path) fs m h = refl
 act-leaves (nextEntry d from) fs m h = refl
+act-leaves (search d name from most) fs m h = refl
 act-leaves (create p name byte) fs m h = go (kindOf byte)
   where
     go : (k : Kind) → onKind fs (λ kind. createdAs p (name .list) kind fs) k .at m ≡ fs .at m

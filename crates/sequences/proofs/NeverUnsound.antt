@@ -10,7 +10,7 @@ use borrow.Author.Tests.{eq-eqb}
 use Rattle.words.specs.Bytes.{Bytes}
 use Rattle.words.specs.Rules.{pick}
 use Rattle.words.specs.Tables.{Each}
-use Rattle.types.specs.Answers.{number, errorNumber}
+use Rattle.types.specs.Answers.{number, errorNumber, searchNumber}
 use Rattle.types.specs.Outcomes.{Outcome}
 use Rattle.types.specs.declared.Answer.{Answer}
 use Rattle.types.specs.declared.Error.{Error}
@@ -19,6 +19,7 @@ use Rattle.types.specs.declared.Expected.{Expected}
 use Rattle.types.specs.declared.FileType.{FileType}
 use Rattle.types.specs.declared.Limit.{Limit}
 use Rattle.types.specs.declared.NodeRecord.{NodeRecord}
+use Rattle.types.specs.declared.Search.{Search}
 use Rattle.allocator.specs.Allocator.{Allocator, AllocatorStep}
 use Rattle.allocator.specs.Allocator as allocating
 use Rattle.paths.specs.Path.{Cutting, parts, notPermitted, tooLong}
@@ -26,7 +27,7 @@ use Rattle.volume.specs.declared.kinds.Kind.{Kind}
 use Rattle.volume.specs.declared.kinds.Kind.the-variants.{Known, Unknown}
 use Rattle.volume.specs.Rows.{Entry}
 use Rattle.volume.specs.Volume.{Names, Volume, shown}
-use Rattle.volume.specs.Sound.{node, Sound}
+use Rattle.volume.specs.Sound.{Sound}
 use Rattle.volume.specs.Steps.{Step, NamesStep}
 use Rattle.volume.specs.Fresh as Fresh
 use Rattle.volume.specs.Files.{onRow, onFile}
@@ -40,13 +41,14 @@ use Rattle.names.specs.Walks.{onCutting, Walk, reached, stopped, walkParts, onS
 use Rattle.names.specs.Walks as Walks
 use Rattle.names.specs.Listing.{Listed, listedNumber, onDirectory}
 use Rattle.names.specs.Listing as Listing
+use Rattle.names.specs.Searching as Searching
 use Rattle.names.specs.Entering.{onParentRow, onParent, whereNew, onKind}
 use Rattle.names.specs.Entering as Entering
 use Rattle.names.specs.Unlinking as Unlinking
 use Rattle.names.specs.Removing as Removing
 use Rattle.lentilraft.specs.Door as Door
 use Rattle.lentilraft.specs.Report as Report
-use Rattle.sequences.specs.Calls.{Call, newVolume, check, report, setChunkSize, read, write, resize, setLimit, findNode, nextEntry, create, link, unlink, remove}
+use Rattle.sequences.specs.Calls.{Call, newVolume, check, report, setChunkSize, read, write, resize, setLimit, findNode, nextEntry, search, create, link, unlink, remove}
 use Rattle.sequences.specs.Run.{replyNumber, run, accepted, replies}
 use Rattle.sequences.specs.Demand.{NoneUnsound}
 use Rattle.sequences.proofs.Carried.{carried, new-bytes, new-sound}
@@ -73,6 +75,9 @@ FineAllocator s = Fine (s .answer)
 
 abbrev FineListed : Listed → Type 0
 FineListed x = Other (listedNumber x)
+
+abbrev FineSearch : Search → Type 0
+FineSearch s = Other (searchNumber s)
 
 abbrev FineWalk : Walk → Type 0
 FineWalk w = Fine (nodeReached w)
@@ -179,6 +184,15 @@ next-fine : (d from : ℕ) (a : Names) → FineListed (Listing.nextEntry d from 
 unfolding Listing.nextEntry
 next-fine d from a = of-directory FineListed (λ e q. q) _ (λ r. of-entry FineListed _ refl (λ e. refl))
 
+unfound-fine : (looked : ℕ) (es : List Entry) → FineSearch (Searching.unfound looked es)
+unfolding Searching.unfound
+unfound-fine looked [] = refl
+unfound-fine looked (e ∷ es) = refl
+
+search-fine : (d : ℕ) (name : List ℕ) (from most : ℕ) (a : Names) → FineSearch (Searching.search d name from most a)
+unfolding Searching.search Searching.lookedThrough
+search-fine d name from most a = of-directory FineSearch (λ e q. q) _ (λ r. of-pick FineSearch _ (of-entry FineSearch _ (unfound-fine _ _) (λ e. refl)) refl)
+
 enter-fine : (p : ℕ) (name : List ℕ) (full : Bool) (a : Names) (call : NamesStep) → FineNames call → FineNames (whereNew p name full a call)
 unfolding whereNew
 enter-fine p name full a call c = of-entry FineNames _ (of-pick FineNames _ refl (of-pick FineNames _ refl c)) (λ e. refl)
@@ -222,7 +236,7 @@ unfolding Door.doorInto
 into-fine call c l out h = of-sound FineOutcome l h _ _ (c (shown l) out)
 
 call-fine : (c : Call) (l : List ℕ) → Sound l → Other (replyNumber (run c l .reply))
-unfolding Door.check Report.report Door.setChunkSize Door.chunkSizeSet Door.read Door.write Door.resize Door.setLimit Door.findNode Door.nextEntry Door.create Door.link Door.unlink Door.remove Removing.remove
+unfolding Door.check Report.report Door.setChunkSize Door.chunkSizeSet Door.read Door.write Door.resize Door.setLimit Door.findNode Door.nextEntry Door.search Door.create Door.link Door.unlink Door.remove Removing.remove
 call-fine (newVolume n e c s) l h = new-fine n e c s l
 call-fine check l h = of-sound Fine l h _ _ refl
 call-fine (report out) l h = into-fine _ report-fine l out h
@@ -233,6 +247,7 @@ call-fine (resize n z) l h = door-fine _ (resize-fine n z) l h
 call-fine (setLimit n m) l h = door-fine _ (limit-fine n m) l h
 call-fine (findNode start path) l h = of-sound Fine l h _ _ (find-fine start path (shown l .names))
 call-fine (nextEntry d from) l h = of-sound FineListed l h _ _ (next-fine d from (shown l .names))
+call-fine (search d name from most) l h = of-sound FineSearch l h _ _ (search-fine d name from most (shown l .names))
 call-fine (create p name byte) l h = door-fine _ (λ v. create-fine p (name .list) byte (v .names)) l h
 call-fine (link p name t) l h = door-fine _ (λ v. link-fine p (name .list) t (v .names)) l h
 call-fine (unlink start path want opens) l h = door-fine _ (λ v. unlink-fine start path want opens (v .names)) l h

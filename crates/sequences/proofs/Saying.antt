@@ -17,7 +17,7 @@ use Rattle.volume.specs.declared.kinds.Kind.the-variants.{Known, Unknown}
 use Rattle.volume.specs.Kinds.{kindOf}
 use Rattle.names.specs.Entering.{onKind}
 use Rattle.sequences.specs.Fs.{NodeSeen, Fs}
-use Rattle.sequences.specs.Calls.{Call, newVolume, check, report, setChunkSize, read, write, resize, setLimit, findNode, nextEntry, create, link, unlink, remove}
+use Rattle.sequences.specs.Calls.{Call, newVolume, check, report, setChunkSize, read, write, resize, setLimit, findNode, nextEntry, search, create, link, unlink, remove}
 use Rattle.sequences.specs.Act.{NameIn, onName, pathName, within, changedIf, changeAt, putAt, newSeen, withWritten, withCut, withName, emptyFs, createdAs, unlinkedFrom, act}
 use Rattle.sequences.specs.Saying.{says, saidOr, byteOf, byteSeen}
 use Rattle.sequences.proofs.Shown.{by-node, change-here, change-other, put-here, put-other}
@@ -55,6 +55,7 @@ Able (resize n z) fs = Unit {0}
 Able (setLimit n most) fs = Unit {0}
 Able (findNode start path) fs = Unit {0}
 Able (nextEntry d from) fs = Unit {0}
+Able (search d name from most) fs = Unit {0}
 Able (create p name byte) fs = fs .at (fs .next) ≡ none
 Able (link p name t) fs = Unit {0}
 Able (unlink start path want opens) fs = Unit {0}
@@ -160,6 +161,7 @@ act-says (resize m z) fs able n j = resize-says m z fs n j
 act-says (setLimit m most) fs able n j = kept-bytes m _ fs (λ x i. refl) n j
 act-says (findNode start path) fs able n j = refl
 act-says (nextEntry d from) fs able n j = refl
+act-says (search d name from most) fs able n j = refl
 act-says (create p name byte) fs able n j = create-says p (name .list) byte fs able n j
 act-says (link p name t) fs able n j = kept-bytes p _ _ (λ x i. refl) n j ∙ kept-bytes t _ fs (λ x i. refl) n j
 act-says (unlink start path want opens) fs able n j = unlink-says fs (pathName fs start path) n j

@@ -17,7 +17,7 @@ use Rattle.volume.specs.Kinds.{kindOf}
 use Rattle.names.specs.Entering.{onKind}
 use Rattle.names.specs.Walks.{onCutting}
 use Rattle.sequences.specs.Fs.{NameSeen, NodeSeen, Fs}
-use Rattle.sequences.specs.Calls.{Call, newVolume, check, report, setChunkSize, read, write, resize, setLimit, findNode, nextEntry, create, link, unlink, remove}
+use Rattle.sequences.specs.Calls.{Call, newVolume, check, report, setChunkSize, read, write, resize, setLimit, findNode, nextEntry, search, create, link, unlink, remove}
 
 -- ---- one node
 
@@ -143,6 +143,7 @@ act (resize n z) fs = changeAt n (withCut z) fs
 act (setLimit n m) fs = changeAt n (withLimit m) fs
 act (findNode start path) fs = fs
 act (nextEntry d from) fs = fs
+act (search d name from most) fs = fs
 act (create p name byte) fs = onKind fs (λ kind. createdAs p (name .list) kind fs) (kindOf byte)
 act (link p name t) fs = linkedAs p (name .list) t fs
 act (unlink start path want opens) fs = onName fs (unlinkedFrom fs) (pathName fs start path)

@@ -28,6 +28,8 @@ pub data Call : Type 0 where
   findNode : ℕ → List ℕ → Call
   -- a directory, an index
   nextEntry : ℕ → ℕ → Call
+  -- a directory, a name, an index, a limit
+  search : ℕ → List ℕ → ℕ → ℕ → Call
   -- a parent, a name, a type
   create : ℕ → Lent → ℕ → Call
   -- a parent, a name, a target

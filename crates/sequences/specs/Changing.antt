@@ -6,7 +6,7 @@ use mathlib.Core.Logic.{_⊎_}
 use mathlib.Core.Option.{Option, none, some}
 use Prim.Native.Nat.{ℕ}
 use Rattle.sequences.specs.Fs.{Fs}
-use Rattle.sequences.specs.Calls.{Call, newVolume, check, report, setChunkSize, read, write, resize, setLimit, findNode, nextEntry, create, link, unlink, remove}
+use Rattle.sequences.specs.Calls.{Call, newVolume, check, report, setChunkSize, read, write, resize, setLimit, findNode, nextEntry, search, create, link, unlink, remove}
 use Rattle.sequences.specs.Act.{NameIn, pathName}
 
 -- the directory that a name stands in, and the node it names
@@ -25,6 +25,7 @@ MayChange (resize n z) fs m = m ≡ n
 MayChange (setLimit n most) fs m = m ≡ n
 MayChange (findNode start path) fs m = ⊥
 MayChange (nextEntry d from) fs m = ⊥
+MayChange (search d name from most) fs m = ⊥
 MayChange (create p name byte) fs m = (m ≡ p) ⊎ (m ≡ fs .next)
 MayChange (link p name t) fs m = (m ≡ p) ⊎ (m ≡ t)
 MayChange (unlink start path want opens) fs m = ParentOrTarget m (pathName fs start path)

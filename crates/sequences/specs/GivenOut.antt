@@ -7,7 +7,7 @@ use Prim.Native.Nat.{ℕ, _+_, _%_, _≤_, _<_}
 use Rattle.words.specs.Rules.{count}
 use Rattle.allocator.specs.Allocator.{free}
 use Rattle.volume.specs.Volume.{Store}
-use Rattle.sequences.specs.Calls.{Call, newVolume, check, report, setChunkSize, read, write, resize, setLimit, findNode, nextEntry, create, link, unlink, remove}
+use Rattle.sequences.specs.Calls.{Call, newVolume, check, report, setChunkSize, read, write, resize, setLimit, findNode, nextEntry, search, create, link, unlink, remove}
 
 abbrev pub live : Store → List ℕ
 live s = map (λ c. c .pointer) (s .chunks)
@@ -36,6 +36,7 @@ GoesOn (resize n z) = Unit {0}
 GoesOn (setLimit n most) = Unit {0}
 GoesOn (findNode start path) = Unit {0}
 GoesOn (nextEntry d from) = Unit {0}
+GoesOn (search d name from most) = Unit {0}
 GoesOn (create p name byte) = Unit {0}
 GoesOn (link p name t) = Unit {0}
 GoesOn (unlink start path want opens) = Unit {0}

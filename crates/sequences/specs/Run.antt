@@ -5,26 +5,29 @@ use mathlib.Core.Bool.{Bool}
 use mathlib.Core.List.{List, [], _∷_}
 use lib.Dec.{eqb}
 use Rattle.words.specs.Rules.{pick}
-use Rattle.types.specs.Answers.{number}
+use Rattle.types.specs.Answers.{number, searchNumber}
 use Rattle.types.specs.Outcomes.{Outcome}
 use Rattle.types.specs.declared.Answer.{Answer}
+use Rattle.types.specs.declared.Search.{Search}
 use Rattle.volume.specs.Fresh as Fresh
 use Rattle.names.specs.Listing.{Listed, listedNumber}
 use Rattle.lentilraft.specs.Door as Door
 use Rattle.lentilraft.specs.Report as Report
-use Rattle.sequences.specs.Calls.{Call, newVolume, check, report, setChunkSize, read, write, resize, setLimit, findNode, nextEntry, create, link, unlink, remove}
+use Rattle.sequences.specs.Calls.{Call, newVolume, check, report, setChunkSize, read, write, resize, setLimit, findNode, nextEntry, search, create, link, unlink, remove}
 
--- what the caller is given: an answer; an answer and the bytes left in the buffer that was lent; an entry
+-- what the caller is given: an answer; an answer and the bytes left in the buffer that was lent; an entry; what a search tells
 pub data Reply : Type 0 where
   told : Answer → Reply
   filled : Outcome → Reply
   entry : Listed → Reply
+  searched : Search → Reply
 
 -- 0, or the number of a refusal
 abbrev pub replyNumber : Reply → ℕ
 replyNumber (told a) = number a
 replyNumber (filled o) = number (o .answer)
 replyNumber (entry x) = listedNumber x
+replyNumber (searched s) = searchNumber s
 
 pub record Ran : Type 0 where
   pub reply : Reply
@@ -48,6 +51,7 @@ run (resize n z) l = changes (Door.resize n z l)
 run (setLimit n m) l = changes (Door.setLimit n m l)
 run (findNode start path) l = leaves (told (Door.findNode start path l)) l
 run (nextEntry d from) l = leaves (entry (Door.nextEntry d from l)) l
+run (search d name from most) l = leaves (searched (Door.search d name from most l)) l
 run (create p name byte) l = changes (Door.create p (name .list) byte l)
 run (link p name t) l = changes (Door.link p (name .list) t l)
 run (unlink start path want opens) l = changes (Door.unlink start path want opens l)

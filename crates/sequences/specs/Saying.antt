@@ -8,7 +8,7 @@ use lib.Dec.{eqb, leb}
 use lib.ListN.{length, getD}
 use Rattle.words.specs.Rules.{pick, both}
 use Rattle.sequences.specs.Fs.{Fs, NodeSeen}
-use Rattle.sequences.specs.Calls.{Call, newVolume, check, report, setChunkSize, read, write, resize, setLimit, findNode, nextEntry, create, link, unlink, remove}
+use Rattle.sequences.specs.Calls.{Call, newVolume, check, report, setChunkSize, read, write, resize, setLimit, findNode, nextEntry, search, create, link, unlink, remove}
 use Rattle.sequences.specs.Act.{within}
 
 -- what one call says of byte j of node n, if anything
@@ -23,6 +23,7 @@ says n j (resize m z) = pick (both (eqb m n) (leb z j)) (some 0) none
 says n j (setLimit m most) = none
 says n j (findNode start path) = none
 says n j (nextEntry d from) = none
+says n j (search d name from most) = none
 says n j (create p name byte) = none
 says n j (link p name t) = none
 says n j (unlink start path want opens) = none

@@ -82,6 +82,15 @@ pub enum Answer {
     Refused(Error),
 }
 
+// What a search that may stop answers: the index and the node of the entry that has the name; that none has it; or the index of the first
+// entry that was not looked at. Each with the number looked at.
+pub enum Search {
+    Found(u32, u64, u64),
+    Absent(u64),
+    Stopped(u32, u64),
+    Refused(Error),
+}
+
 // The scope's number of a refusal.
 pub fn error_number(e: Error) -> u32
     ensures { λ r. ⌜ (r ≡ errorNumber e) × (r ≤ 15) ⌝ }

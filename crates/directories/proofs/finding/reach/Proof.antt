@@ -1,15 +1,10 @@
 use borrow.Author.Needs.{needs}
 use Rattle.directories.proofs.finding.reach.Statement.{statement}
 use Rattle.directories.proofs.finding.reach.Tie as tie
-use Rattle.directories.proofs.finding.reach.Reads as reads
-use Rattle.directories.proofs.finding.reach.Lts as lts
-use Rattle.directories.proofs.searching.find_entry.Reads as find-entry-reads
-use Rattle.tables.proofs.entry_node.Reads as entry-node-reads
 use denote.Ref.{now}
 use mathlib.Core.Path.{sym, _∙_}
-use native.Mathlib.Omega.{arith}
 use Rattle.volume.specs.Volume.{shown}
-use Rattle.directories.proofs.NamedEntry.{searched-found}
+use Rattle.directories.proofs.NamedEntry.{entry-found}
 use Rattle.directories.proofs.Reaching.{reach-long, reach-none, reach-at}
 
 -- src/finding.rt:33:9
@@ -37,7 +32,7 @@ returns-2 c =
 -- src/finding.rt:39:17
 entry-node-requires : tie.Need-entry-node-requires
 entry-node-requires c κs =
-    (c .before .before .before .before .before .before .before .pre .0, searched-found (c .before .before .before .before .before .before .before .args .node) (now (c .before .before .before .before .before .before .before .args .part)) ((shown (now (c .before .before .before .before .before .before .before .args .volume)) .names .entries)) (c .before .before .before .before .before .before .before .pre .1) (sym (c .before .found .given .1) ∙ c .before .before .before .find-entry .ensures) .0)
+    (c .before .before .before .before .before .before .before .pre .0, entry-found (c .before .before .before .before .before .before .before .args .node) (now (c .before .before .before .before .before .before .before .args .part)) ((shown (now (c .before .before .before .before .before .before .before .args .volume)) .names .entries)) (c .before .before .before .before .before .before .before .pre .1) (sym (c .before .found .given .1) ∙ c .before .before .before .find-entry .ensures) .0)
 
 -- src/finding.rt:28:1
 returns-3 : tie.Need-returns-3
