@@ -161,6 +161,28 @@ static void list(uint64_t directory)
     }
 }
 
+/* Search looks for a name in one directory, at no more entries than it is told, so that a large directory can be looked through a part at a time.
+   Where it has stopped, it goes on from the index that it tells. With a `most` of 0 it would not get on. */
+static void search(uint64_t directory, const char *name, uint64_t most)
+{
+    size_t length = strlen(name);
+    uint64_t node, looked;
+    uint32_t number, found, index, from = 0;
+    do {
+        number = lentilraft_search(volume, LENGTH, directory, bytes_of(name), length, from, most, &found, &index, &node, &looked);
+        if (!done("search ", name, number))
+            return;
+        if (found == LENTILRAFT_FOUND)
+            printf("  found, entry %" PRIu32 ", node %" PRIu64, index, node);
+        else if (found == LENTILRAFT_STOPPED)
+            printf("  stopped before entry %" PRIu32, index);
+        else
+            printf("  absent");
+        printf(", %" PRIu64 " looked at\n", looked);
+        from = index;
+    } while (found == LENTILRAFT_STOPPED);
+}
+
 /* Unlink takes a name away, and tells which node it named. It is told what to expect there, and how many have the file open: the last name
    of an open file is not taken. */
 static void unlink_file(const char *path, uint64_t opens)
@@ -213,6 +235,10 @@ int main(void)
     find("traces/hood-7");
     find("traces/hood-8");
     list(folder);
+    search(folder, "newest", UINT64_MAX);
+    search(folder, "newest", 1);
+    search(folder, "hood-8", 1);
+    search(folder, "traces/hood-7", 1);
     write_behind_a_gap(file);
     cut_and_extend(file);
     limit_a_file(file);

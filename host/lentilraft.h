@@ -49,6 +49,13 @@ enum lentilraft_expected {
     LENTILRAFT_EXPECT_FILE = 2 /* or a symbolic link */
 };
 
+/* What search tells through `found`. */
+enum lentilraft_found {
+    LENTILRAFT_ABSENT = 0,
+    LENTILRAFT_FOUND = 1,
+    LENTILRAFT_STOPPED = 2
+};
+
 /* Makes a volume of all of a memory, whatever it held, with room for so many nodes, entries and chunks (1 to 4,096 each) and a chunk size of
    4,096, 8,192, 16,384, 32,768 or 65,536. The memory needs 65,728 + 40 nodes + 280 entries + 32 chunks bytes, and may have more.
    13: geometry, length or chunk size. */
@@ -115,6 +122,15 @@ uint32_t lentilraft_remove(uint8_t *volume, size_t length, uint64_t node);
    until the volume is changed; a call that changes it must be given a copy of the name.
    1: unsound memory. 2: no such node. 4: no directory. 2: no such entry. */
 uint32_t lentilraft_next_entry(const uint8_t *volume, size_t length, uint64_t directory, uint32_t from, uint64_t *name_start, uint64_t *name_length, uint32_t *index, uint64_t *node);
+
+/* Searches a directory for a name. Looks, in index order, at the entries whose index is at or above `from`, and at no more than `most` of them.
+   Tells what came of it (enum lentilraft_found), and how many were looked at.
+   Found: the index and the node of the entry that has the name; it is the last one looked at. Absent: all those entries were looked at, and none has
+   the name; index and node are 0. Stopped: `most` were looked at, none has the name, and entries are left; the index is that of the first of these,
+   and node is 0. To go on, search from the index told, with a `most` above 0: if the directory is not changed in between, this ends as one search
+   does, and the numbers looked at add up to that one's. UINT64_MAX as `most` is no limit.
+   1: unsound memory. 2: no such node. 4: no directory. 9: bad name, as in create. */
+uint32_t lentilraft_search(const uint8_t *volume, size_t length, uint64_t directory, const uint8_t *name, size_t name_length, uint32_t from, uint64_t most, uint32_t *found, uint32_t *index, uint64_t *node, uint64_t *looked);
 
 /* Writes the report, lines `key=value`, to out, and tells how many bytes it has; out stays as it was past the count.
    1: unsound memory. 15: out is shorter than 512 bytes. */

@@ -17,7 +17,15 @@ pub struct Command {
     /// What more there is to know.
     pub details: &'static str,
     pub example: &'static str,
-    pub run: fn(&Arguments) -> Outcome<()>,
+    pub run: Run,
+}
+
+/// What carries a command out.
+pub enum Run {
+    /// It is done, or it has failed.
+    Plain(fn(&Arguments) -> Outcome<()>),
+    /// It ends in one of several ways, each with an exit code of its own.
+    Coded(fn(&Arguments) -> Outcome<i32>),
 }
 
 /// An option, with a value behind it or without.
@@ -72,6 +80,13 @@ impl Arguments {
             .map(|value| size(switch, value))
             .transpose()
     }
+
+    /// A number that counts no bytes, so that no unit stands behind it.
+    pub fn number(&self, switch: &str, greatest: u64) -> Outcome<Option<u64>> {
+        self.value(switch)
+            .map(|value| number(switch, value, greatest))
+            .transpose()
+    }
 }
 
 /// A size out of the command line.
@@ -81,6 +96,17 @@ pub fn size(what: &str, value: &OsStr) -> Outcome<u64> {
         Failure::usage(format!(
             "{} is a number of bytes, with k, M or G behind it or nothing, and not '{}'",
             what, value
+        ))
+    })
+}
+
+fn number(what: &str, value: &OsStr, greatest: u64) -> Outcome<u64> {
+    let number = value.to_str().and_then(text::parse_number);
+    number.filter(|number| *number <= greatest).ok_or_else(|| {
+        let value = text::quoted(value.as_bytes());
+        Failure::usage(format!(
+            "{} is a number from 0 to {}, and not '{}'",
+            what, greatest, value
         ))
     })
 }
@@ -173,6 +199,14 @@ impl Command {
         ))
     }
 
+    /// Carries it out, and gives the exit code.
+    pub fn carry_out(&self, arguments: &Arguments) -> Outcome<i32> {
+        match self.run {
+            Run::Plain(run) => run(arguments).map(|()| 0),
+            Run::Coded(run) => run(arguments),
+        }
+    }
+
     pub fn help(&self) -> String {
         let options = match self.options {
             [] => "",
@@ -240,8 +274,8 @@ behind them mean powers of 1,024. '--' ends the options.
 A command that changes a volume locks it, works in memory, and puts the changed volume in the place
 of the old one at the end, in one step. If it is refused or killed, the old one is there as it was.
 
-Exit codes: 0 done, 1 refused or failed, 2 a command line that makes no sense. A number in brackets
-behind an error is the store's own.
+Exit codes: 0 done, 1 refused or failed, 2 a command line that makes no sense; of search also 3 and
+4. A number in brackets behind an error is the store's own.
 
 example:
   lentil new traces.vol --size 64M

@@ -23,19 +23,23 @@ use failure::{Failure, Outcome};
 
 fn main() {
     sys::set_signals();
-    if let Err(failure) = run() {
+    let code = run().unwrap_or_else(|failure| {
         eprintln!("lentil: {}", failure);
-        process::exit(failure.exit_code());
-    }
+        failure.exit_code()
+    });
+    process::exit(code);
 }
 
-fn run() -> Outcome<()> {
-    match args::parse(commands::ALL, env::args_os().skip(1))? {
-        Request::Run(command, arguments) => (command.run)(&arguments),
-        Request::Help(None) => text::print(args::help(commands::ALL).as_bytes()),
-        Request::Help(Some(command)) => text::print(command.help().as_bytes()),
-        Request::Version => text::print(VERSION.as_bytes()),
-    }
+/// Does what is asked for, and gives the exit code.
+fn run() -> Outcome<i32> {
+    let told = match args::parse(commands::ALL, env::args_os().skip(1))? {
+        Request::Run(command, arguments) => return command.carry_out(&arguments),
+        Request::Help(None) => args::help(commands::ALL),
+        Request::Help(Some(command)) => command.help(),
+        Request::Version => VERSION.to_string(),
+    };
+    text::print(told.as_bytes())?;
+    Ok(0)
 }
 
 const VERSION: &str = concat!("lentil ", env!("CARGO_PKG_VERSION"), "\n");

@@ -16,10 +16,13 @@ pub fn parse_size(text: &str) -> Option<u64> {
         Some((_, factor)) => (&text[..text.len() - 1], *factor),
         None => (text, 1),
     };
-    if !digits.bytes().all(|byte| byte.is_ascii_digit()) {
-        return None;
-    }
-    digits.parse::<u64>().ok()?.checked_mul(factor)
+    parse_number(digits)?.checked_mul(factor)
+}
+
+/// A number: digits and nothing else.
+pub fn parse_number(text: &str) -> Option<u64> {
+    let plain = text.bytes().all(|byte| byte.is_ascii_digit());
+    text.parse().ok().filter(|_| plain)
 }
 
 /// A size in the greatest unit that it reaches, to three decimals: 1536 is 1.5k.
@@ -187,6 +190,16 @@ mod tests {
         }
         assert_eq!(parse_size("18446744073709551616"), None);
         assert_eq!(parse_size("17179869184G"), None);
+    }
+
+    #[test]
+    fn numbers_are_digits_alone() {
+        assert_eq!(parse_number("0"), Some(0));
+        assert_eq!(parse_number("007"), Some(7));
+        assert_eq!(parse_number("18446744073709551615"), Some(u64::MAX));
+        for text in ["", "4k", "-1", "+1", " 1", "1.0", "18446744073709551616"] {
+            assert_eq!(parse_number(text), None, "{}", text);
+        }
     }
 
     #[test]

@@ -251,6 +251,98 @@ fn names_are_made_listed_and_taken_away() {
     );
 }
 
+/// A folder `d` with the files a to e, of which c was taken away: their indexes are 1, 2, 4 and 5.
+fn place_to_search(test: &str) -> Place {
+    let place = Place::with_volume(test);
+    place.run(["mkdir", "v", "d"]).done();
+    for path in ["d/a", "d/b", "d/c", "d/d", "d/e"] {
+        place.feed(&["put", "v", path], b"").done();
+    }
+    place.run(["rm", "v", "d/c"]).done();
+    place
+}
+
+#[test]
+fn search_tells_where_a_name_stands() {
+    let place = place_to_search("search");
+    let search = |words: &[&str]| place.run(["search", "v"].iter().chain(words));
+    let state = place.state("v");
+    search(&["d", "a"]).ended(0, "found: node 2, index 1, looked at 1\n");
+    search(&["d", "d"]).ended(0, "found: node 5, index 4, looked at 3\n");
+    search(&["d", "c"]).ended(3, "absent: looked at 4\n");
+    search(&[".", "d"]).ended(0, "found: node 1, index 1, looked at 1\n");
+    search(&["", "a"]).ended(3, "absent: looked at 1\n");
+    search(&["./d//", "e"]).ended(0, "found: node 6, index 5, looked at 4\n");
+    assert!(state == place.state("v"));
+    assert_eq!(place.names(), ["v"]);
+}
+
+#[test]
+fn search_begins_at_an_index() {
+    let place = place_to_search("search_from");
+    let search = |name, from| place.run(["search", "v", "d", name, "--from", from]);
+    for from in ["3", "4"] {
+        search("d", from).ended(0, "found: node 5, index 4, looked at 1\n");
+    }
+    search("a", "2").ended(3, "absent: looked at 3\n");
+    for from in ["6", "4294967295"] {
+        search("a", from).ended(3, "absent: looked at 0\n");
+    }
+}
+
+#[test]
+fn search_stops_at_its_limit() {
+    let place = place_to_search("search_most");
+    let search = |name, most| place.run(["search", "v", "d", name, "--most", most]);
+    search("d", "0").ended(4, "stopped: looked at 0, go on with --from 1\n");
+    search("d", "1").ended(4, "stopped: looked at 1, go on with --from 2\n");
+    search("d", "2").ended(4, "stopped: looked at 2, go on with --from 4\n");
+    for most in ["3", "4", "18446744073709551615"] {
+        search("d", most).ended(0, "found: node 5, index 4, looked at 3\n");
+    }
+    search("c", "3").ended(4, "stopped: looked at 3, go on with --from 5\n");
+    search("c", "4").ended(3, "absent: looked at 4\n");
+    let last = place.run(["search", "v", "d", "c", "--from=5", "--most=1"]);
+    last.ended(3, "absent: looked at 1\n");
+}
+
+#[test]
+fn search_goes_on_by_the_last_word_that_it_wrote() {
+    let place = place_to_search("search_on");
+    let script = "from=0
+        while
+            answer=$(\"$@\" search v d e --most 1 --from $from)
+            code=$?
+            echo \"$code $answer\"
+            [ $code -eq 4 ]
+        do
+            from=${answer##* }
+        done";
+    let expected = "\
+4 stopped: looked at 1, go on with --from 2
+4 stopped: looked at 1, go on with --from 4
+4 stopped: looked at 1, go on with --from 5
+0 found: node 6, index 5, looked at 1
+";
+    assert_eq!(place.shell(script).text(), expected);
+}
+
+#[test]
+fn search_takes_any_name() {
+    let place = Place::with_volume("search_any");
+    place.run(["mkdir", "v", "--", "-p"]).done();
+    place
+        .run(["search", "v", ".", "--", "-p"])
+        .ended(0, "found: node 1, index 1, looked at 1\n");
+    let odd = OsStr::from_bytes(b"\xff\n'");
+    place
+        .run([OsStr::new("mkdir"), OsStr::new("v"), odd])
+        .done();
+    place
+        .run(["search", "v", "."].map(OsStr::new).iter().chain(&[odd]))
+        .ended(0, "found: node 2, index 2, looked at 2\n");
+}
+
 #[test]
 fn rm_takes_a_folder_with_all_below_it() {
     let place = Place::with_volume("rm_all");

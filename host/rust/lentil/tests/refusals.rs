@@ -32,12 +32,13 @@ fn what_is_no_volume_is_refused_by_each_command_and_stays() {
     let mut broken = sound.clone();
     broken[0] ^= 1;
     let cases: [&[u8]; 4] = [b"", b"a letter\n", &broken, &sound[..sound.len() - 65536]];
-    let commands: [&[&str]; 15] = [
+    let commands: [&[&str]; 16] = [
         &["check", "v"],
         &["report", "v"],
         &["ls", "v"],
         &["ls", "-l", "v", "d"],
         &["tree", "v"],
+        &["search", "v", "d", "f"],
         &["map", "v", "--svg", "picture"],
         &["get", "v", "g", "out"],
         &["export", "v", "out"],
@@ -83,6 +84,7 @@ fn nodes_and_entries_that_are_not_there() {
         let words = [&[command, "v", "traces/hood7"], out].concat();
         place.refuses(&words, "traces/hood7: no such node or entry (2)");
     }
+    place.refuses(&["search", "v", "x", "f"], "x: no such node or entry (2)");
     place.refuses(&["cut", "v", "x", "1"], "x: no such node or entry (2)");
     place.refuses(&["limit", "v", "x", "1"], "x: no such node or entry (2)");
     place.refuses(&["ln", "v", "x", "y"], "x: no such node or entry (2)");
@@ -113,6 +115,7 @@ fn directories_and_files_in_each_others_place() {
     place.refuses(&["limit", "v", ".", "9"], ".: is a directory (3)");
     place.refuses(&["ln", "v", "d", "e"], "e: is a directory (3)");
     place.refuses(&["tree", "v", "g"], "g: not a directory (4)");
+    place.refuses(&["search", "v", "g", "/"], "g: not a directory (4)");
     place.refuses(&["export", "v", "g", "out"], "g: not a directory (4)");
     place.refuses(&["mkdir", "v", "g/x"], "g/x: not a directory (4)");
     place.refuses(&["put", "v", "g/x", "one"], "g/x: not a directory (4)");
@@ -212,6 +215,7 @@ fn paths_and_names_that_are_not_allowed() {
         place.refuses(&["mkdir", "-p", "v", path], &message);
         place.refuses(&["put", "v", path, "one"], &message);
         place.refuses(&["ln", "v", "g", path], &message);
+        place.refuses(&["search", "v", path, "f"], &message);
         place.refuses(&["import", "v", ".", path], &message);
         place.refuses(&["export", "v", path, "out"], &message);
     }
@@ -226,6 +230,11 @@ fn paths_and_names_that_are_not_allowed() {
     for name in [".", "d/..", long.as_str()] {
         place.refuses(&["mkdir", "v", name], &format!("{}: bad name (9)", name));
     }
+    for name in [".", "..", "d/f", "f/", long.as_str()] {
+        let message = format!("{}: bad name (9)", name);
+        place.refuses(&["search", "v", "d", name], &message);
+    }
+    place.refuses(&["search", "v", "d", ""], "'': bad name (9)");
     place.refuses(
         &["put", "v", &long, "one"],
         &format!("{}: bad name (9)", long),

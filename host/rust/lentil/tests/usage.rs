@@ -4,9 +4,9 @@ mod common;
 
 use common::Place;
 
-const COMMANDS: [&str; 15] = [
-    "new", "check", "report", "ls", "tree", "mkdir", "put", "get", "cut", "limit", "ln", "rm",
-    "import", "export", "map",
+const COMMANDS: [&str; 16] = [
+    "new", "check", "report", "ls", "tree", "search", "mkdir", "put", "get", "cut", "limit", "ln",
+    "rm", "import", "export", "map",
 ];
 
 #[test]
@@ -87,6 +87,50 @@ fn senseless_command_lines_are_refused() {
             (&["limit", "v", "a", "\x1b"], "'$'\\x1b''"),
         ],
     );
+}
+
+#[test]
+fn senseless_numbers_of_a_search_are_refused() {
+    let search = |switch, number| ["search", "v", "d", "f", switch, number];
+    let place = Place::with_volume("usage_search");
+    for number in [
+        "",
+        "x",
+        "-1",
+        "+1",
+        "1.5",
+        "4k",
+        "4294967296",
+        "99999999999999999999",
+    ] {
+        let reason = format!(
+            "--from is a number from 0 to 4294967295, and not '{}'",
+            number
+        );
+        place.run(search("--from", number)).misused(&reason);
+    }
+    for number in ["", "all", "-1", "4k", "18446744073709551616"] {
+        let range = "0 to 18446744073709551615";
+        let reason = format!("--most is a number from {}, and not '{}'", range, number);
+        place.run(search("--most", number)).misused(&reason);
+    }
+    are_misused(
+        "usage_search_words",
+        &[
+            (&["search", "v", "d"], "search takes VOLUME PATH NAME."),
+            (&["search", "v", "d", "f", "g"], "search takes VOLUME PATH"),
+            (&["search", "v", "d", "f", "--from"], "--from takes INDEX."),
+            (&["search", "v", "d", "f", "--most"], "--most takes COUNT."),
+        ],
+    );
+}
+
+#[test]
+fn the_help_of_search_has_its_exit_codes() {
+    let help = Place::new("help_search").run(["search", "--help"]).text();
+    for line in ["  0  found: ", "  3  absent: ", "  4  stopped: "] {
+        assert!(help.contains(&format!("\n{}", line)), "{}", help);
+    }
 }
 
 #[test]

@@ -31,6 +31,7 @@ extern "C" {
     fn lentilraft_unlink(volume: *mut u8, length: usize, start: u64, path: *const u8, path_length: usize, expected: u8, opens: u64, node: &mut u64) -> u32;
     fn lentilraft_remove(volume: *mut u8, length: usize, node: u64) -> u32;
     fn lentilraft_next_entry(volume: *const u8, length: usize, directory: u64, from: u32, name_start: &mut u64, name_length: &mut u64, index: &mut u32, node: &mut u64) -> u32;
+    fn lentilraft_search(volume: *const u8, length: usize, directory: u64, name: *const u8, name_length: usize, from: u32, most: u64, found: &mut u32, index: &mut u32, node: &mut u64, looked: &mut u64) -> u32;
     fn lentilraft_report(volume: *const u8, length: usize, out: *mut u8, out_length: usize, count: &mut u64) -> u32;
 }
 
@@ -238,6 +239,56 @@ pub(crate) fn next_entry(volume: &[u8], directory: u64, from: u32) -> Result<Nam
     answer(number, name)
 }
 
+/// What came of a search, 0 to 2, and the numbers beside it.
+#[derive(Debug, Default, PartialEq)]
+pub(crate) struct SearchGiven {
+    pub found: u32,
+    pub index: u32,
+    pub node: u64,
+    pub looked: u64,
+}
+
+pub(crate) fn search(
+    volume: &[u8],
+    directory: u64,
+    name: &[u8],
+    from: u32,
+    most: u64,
+) -> Result<SearchGiven> {
+    let mut given = SearchGiven::default();
+    let number = search_into(volume, directory, name, from, most, &mut given);
+    answer(number, given)
+}
+
+/// The number that a search gives back, and the others where they are lent.
+fn search_into(
+    volume: &[u8],
+    directory: u64,
+    name: &[u8],
+    from: u32,
+    most: u64,
+    given: &mut SearchGiven,
+) -> u32 {
+    // SAFETY: each pointer and the length behind it are of one slice. Both slices are only read, so
+    // they may overlap; the four numbers are lent by `&mut` and are fields of their own, so they
+    // overlap nothing.
+    unsafe {
+        lentilraft_search(
+            volume.as_ptr(),
+            volume.len(),
+            directory,
+            name.as_ptr(),
+            name.len(),
+            from,
+            most,
+            &mut given.found,
+            &mut given.index,
+            &mut given.node,
+            &mut given.looked,
+        )
+    }
+}
+
 pub(crate) fn report(volume: &[u8], out: &mut [u8]) -> Result<u64> {
     let mut count = 0;
     // SAFETY: each pointer and the length behind it are of one slice. The volume is only read; the
@@ -254,7 +305,7 @@ pub(crate) fn report(volume: &[u8], out: &mut [u8]) -> Result<u64> {
     answer(number, count)
 }
 
-/// Numbers that the types of this crate keep from ever being given.
+/// Numbers that the types of this crate keep from ever being given, and places that it does not show.
 #[cfg(test)]
 mod tests {
     use super::*;
@@ -293,5 +344,53 @@ mod tests {
             unlink(&mut volume, 0, b"f", 3, 0),
             Err(Error::InvalidArgument)
         );
+    }
+
+    fn with_file() -> (Vec<u8>, u64) {
+        let mut volume = vec![0; 65_728 + 2 * 40 + 280 + 32];
+        new_volume(&mut volume, 2, 1, 1, 4096).unwrap();
+        let file = create(&mut volume, 0, b"f", 1).unwrap();
+        (volume, file)
+    }
+
+    /// What a search gives back and leaves in places that hold something else.
+    fn searched(volume: &[u8], directory: u64, name: &[u8], most: u64) -> (u32, SearchGiven) {
+        let mut given = SearchGiven {
+            found: 7,
+            index: 7,
+            node: 7,
+            looked: 7,
+        };
+        let number = search_into(volume, directory, name, 0, most, &mut given);
+        (number, given)
+    }
+
+    #[test]
+    fn a_refused_search_sets_every_place_to_0() {
+        let (volume, file) = with_file();
+        let refused = |number| (number, SearchGiven::default());
+        for most in [0, 1, u64::MAX] {
+            assert_eq!(searched(&volume[1..], 9, b"", most), refused(1));
+            assert_eq!(searched(&volume, 9, b"", most), refused(2));
+            assert_eq!(searched(&volume, file, b"", most), refused(4));
+            assert_eq!(searched(&volume, 0, b"", most), refused(9));
+        }
+    }
+
+    #[test]
+    fn a_search_sets_every_place() {
+        let (volume, file) = with_file();
+        let told = |found, index, node, looked| {
+            let given = SearchGiven {
+                found,
+                index,
+                node,
+                looked,
+            };
+            (0, given)
+        };
+        assert_eq!(searched(&volume, 0, b"f", 1), told(1, 1, file, 1));
+        assert_eq!(searched(&volume, 0, b"g", 1), told(0, 0, 0, 1));
+        assert_eq!(searched(&volume, 0, b"f", 0), told(2, 1, 0, 0));
     }
 }

@@ -109,12 +109,14 @@ mod error;
 #[allow(unsafe_code)]
 mod ffi;
 mod rows;
+mod search;
 mod types;
 mod volume;
 
 pub use entries::{Entries, Entry};
 pub use error::{Error, Result};
 pub use rows::{Geometry, Info, Rows, Stretch};
+pub use search::Search;
 pub use types::{ChunkSize, Expected, Kind, Node, Rooms, ROOT};
 pub use volume::Volume;
 

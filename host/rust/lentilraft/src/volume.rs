@@ -6,6 +6,7 @@ use crate::entries::{self, Entries, Entry};
 use crate::error::Result;
 use crate::ffi;
 use crate::rows::{Geometry, Info, Rows, Stretch};
+use crate::search::{self, Search};
 use crate::types::{ChunkSize, Expected, Kind, Node, Rooms};
 
 /// How many bytes every report fits into.
@@ -92,6 +93,44 @@ impl<B: AsRef<[u8]>> Volume<B> {
     /// ends the entries; that there is no further entry ends them without one.
     pub fn entries(&self, directory: Node) -> Entries<'_> {
         Entries::of(self.bytes(), directory)
+    }
+
+    /// Searches a directory for a name, which is one name and no path: looks, in index order, at
+    /// the entries whose index is at or above `from`, and at no more than `most` of them. So a very
+    /// large directory can be looked through a part at a time.
+    ///
+    /// A search that has stopped goes on from the index that it tells, with a `most` above 0. If
+    /// the directory is not changed in between, it ends as one search does, and the numbers looked
+    /// at add up to that one's. `u64::MAX` is no limit.
+    ///
+    /// # Errors
+    ///
+    /// `UnsoundMemory`. `NoSuchEntry`: no such node. `NotDirectory`. `BadName`: a name that
+    /// [`create`](Volume::create) would not take.
+    ///
+    /// ```
+    /// use lentilraft::{ChunkSize, Error, Kind, Rooms, Search, Volume, ROOT};
+    ///
+    /// # let rooms = Rooms { nodes: 4, entries: 4, chunks: 4 };
+    /// # let memory = vec![0; rooms.least_length() as usize];
+    /// # let mut volume = Volume::new(memory, rooms, ChunkSize::K4)?;
+    /// volume.create(ROOT, b"hood-7", Kind::File)?;
+    /// volume.create(ROOT, b"hood-8", Kind::File)?;
+    /// let file = volume.create(ROOT, b"hood-9", Kind::File)?;
+    ///
+    /// // Two entries at a time.
+    /// let stopped = Search::Stopped { index: 3, looked: 2 };
+    /// assert_eq!(volume.search(ROOT, b"hood-9", 0, 2), Ok(stopped));
+    /// let found = Search::Found { index: 3, node: file, looked: 1 };
+    /// assert_eq!(volume.search(ROOT, b"hood-9", 3, 2), Ok(found));
+    ///
+    /// // All that there are.
+    /// let absent = Search::Absent { looked: 3 };
+    /// assert_eq!(volume.search(ROOT, b"hood-10", 0, u64::MAX), Ok(absent));
+    /// # Ok::<(), Error>(())
+    /// ```
+    pub fn search(&self, directory: Node, name: &[u8], from: u32, most: u64) -> Result<Search> {
+        search::search(self.bytes(), directory, name, from, most)
     }
 
     /// The report: lines `key=value` in a fixed order, each ended by a newline.

@@ -6,7 +6,7 @@ use std::os::unix::ffi::OsStrExt;
 use lentilraft::{Error, Kind, Node, Result, ROOT};
 
 use super::{flag, option};
-use crate::args::{self, Arguments, Command};
+use crate::args::{self, Arguments, Command, Run};
 use crate::failure::{About, Failure, Outcome};
 use crate::host::{self, Source};
 use crate::store::{self, Held, Volume};
@@ -31,7 +31,7 @@ Makes the file if need be. Without --at the file has the bytes of FILE then, and
 from standard input if no FILE is given. The volume is locked while they are read, so that nothing
 that came in is lost because another command was faster.",
     example: "lentil put traces.vol hood7/run1 run1.bin --at 1M",
-    run: put,
+    run: Run::Plain(put),
 };
 
 pub const GET: Command = Command {
@@ -47,7 +47,7 @@ pub const GET: Command = Command {
 Bytes that were never written are zeros. They go to standard output if no FILE is given. A FILE
 that is there is replaced, once all bytes are there.",
     example: "lentil get traces.vol hood7/run1 --at 1M --count 4k | xxd",
-    run: get,
+    run: Run::Plain(get),
 };
 
 pub const CUT: Command = Command {
@@ -59,7 +59,7 @@ pub const CUT: Command = Command {
 What is cut off is gone. What a file gets behind its end is a gap, and reads as zeros. Neither
 needs room in the volume.",
     example: "lentil cut traces.vol hood7/run1 40000",
-    run: cut,
+    run: Run::Plain(cut),
 };
 
 pub const LIMIT: Command = Command {
@@ -70,7 +70,7 @@ pub const LIMIT: Command = Command {
     details:
         "At most 1024G, which is the limit of a file without one, and not below the file's size.",
     example: "lentil limit traces.vol hood7/run1 16M",
-    run: limit,
+    run: Run::Plain(limit),
 };
 
 fn put(arguments: &Arguments) -> Outcome<()> {

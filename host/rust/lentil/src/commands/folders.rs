@@ -11,7 +11,7 @@ use std::path::{Path, PathBuf};
 use lentilraft::{Error, Kind, Node, Result, ROOT};
 
 use super::flag;
-use crate::args::{Arguments, Command};
+use crate::args::{Arguments, Command, Run};
 use crate::failure::{About, Failure, Outcome};
 use crate::host::Source;
 use crate::progress::Progress;
@@ -29,7 +29,7 @@ What is in FOLDER goes to PATH, or to the root; PATH is made if need be. Folders
 and get more; a file that is there is refused, and with it the whole import. Symbolic links come as
 such, and files with several names keep them. Times, owners and rights are not kept.",
     example: "lentil import traces.vol measured/today today --sparse",
-    run: import,
+    run: Run::Plain(import),
 };
 
 pub const EXPORT: Command = Command {
@@ -41,7 +41,7 @@ pub const EXPORT: Command = Command {
 What is in PATH, or in the root, goes to FOLDER, which is made or must be empty. If it fails, what
 it has made is removed again. Limits are not kept.",
     example: "lentil export traces.vol hood7 /tmp/hood7",
-    run: export,
+    run: Run::Plain(export),
 };
 
 fn import(arguments: &Arguments) -> Outcome<()> {

@@ -4,6 +4,7 @@ mod bytes;
 mod folders;
 mod names;
 mod picture;
+mod search;
 mod volumes;
 
 use crate::args::{Command, Switch};
@@ -14,6 +15,7 @@ pub const ALL: &[Command] = &[
     volumes::REPORT,
     names::LS,
     names::TREE,
+    search::SEARCH,
     names::MKDIR,
     bytes::PUT,
     bytes::GET,

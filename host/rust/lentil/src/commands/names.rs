@@ -3,7 +3,7 @@
 use lentilraft::{Info, Kind, Node, Result, ROOT};
 
 use super::flag;
-use crate::args::{Arguments, Command};
+use crate::args::{Arguments, Command, Run};
 use crate::failure::{About, Outcome};
 use crate::progress::Progress;
 use crate::store::{self, Held, Volume};
@@ -20,7 +20,7 @@ pub const LS: Command = Command {
 Names stand in the order in which they were made. With -l the kind is d for a folder, - for a file
 and l for a symbolic link; a folder's size is the number of its names; a file without a limit has -.",
     example: "lentil ls -l traces.vol hood7",
-    run: ls,
+    run: Run::Plain(ls),
 };
 
 pub const TREE: Command = Command {
@@ -30,7 +30,7 @@ pub const TREE: Command = Command {
     options: &[],
     details: "A folder has a slash behind its name.",
     example: "lentil tree traces.vol",
-    run: show_tree,
+    run: Run::Plain(show_tree),
 };
 
 pub const MKDIR: Command = Command {
@@ -43,7 +43,7 @@ pub const MKDIR: Command = Command {
     )],
     details: "The folder that it is to stand in must be there, and have no such name.",
     example: "lentil mkdir -p traces.vol hood7/2024",
-    run: mkdir,
+    run: Run::Plain(mkdir),
 };
 
 pub const LN: Command = Command {
@@ -53,7 +53,7 @@ pub const LN: Command = Command {
     options: &[],
     details: "Both names are the same file, and neither is the first. A folder has one name only.",
     example: "lentil ln traces.vol hood7/run1 best",
-    run: ln,
+    run: Run::Plain(ln),
 };
 
 pub const RM: Command = Command {
@@ -63,7 +63,7 @@ pub const RM: Command = Command {
     options: &[flag("-r", "a folder with all below it")],
     details: "A folder must be empty unless -r is given. The root stays in any case.",
     example: "lentil rm traces.vol hood7/run1",
-    run: rm,
+    run: Run::Plain(rm),
 };
 
 fn ls(arguments: &Arguments) -> Outcome<()> {

@@ -8,7 +8,7 @@ use std::path::Path;
 use lentilraft::{Info, Kind, Node, Result, Rows, ROOT};
 
 use super::option;
-use crate::args::{Arguments, Command};
+use crate::args::{Arguments, Command, Run};
 use crate::failure::{About, Outcome};
 use crate::host;
 use crate::map;
@@ -34,7 +34,7 @@ A line for a file, or for each file below a folder, on one scale. Bytes count as
 chunks. A limit far above all sizes is told, and not drawn. The lines are as long as the terminal is
 wide, or 80 columns.",
     example: "lentil map traces.vol hood7 --svg hood7.svg",
-    run: show_map,
+    run: Run::Plain(show_map),
 };
 
 const DEFAULT_COLUMNS: usize = 80;

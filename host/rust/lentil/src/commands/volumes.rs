@@ -5,7 +5,7 @@ use std::convert::TryFrom;
 use lentilraft::{ChunkSize, Rooms};
 
 use super::{flag, option};
-use crate::args::{Arguments, Command};
+use crate::args::{Arguments, Command, Run};
 use crate::failure::{About, Failure, Outcome};
 use crate::store::{self, Volume};
 use crate::text;
@@ -36,7 +36,7 @@ stays as it is made. With --size alone the chunks are the smallest with which th
 and there is room for as many nodes and names as for chunks. With --chunks and no --size, the file
 is as large as its chunks need. The volume's zeros take no room on the host's disk.",
     example: "lentil new traces.vol --size 64M",
-    run: new,
+    run: Run::Plain(new),
 };
 
 pub const CHECK: Command = Command {
@@ -47,7 +47,7 @@ pub const CHECK: Command = Command {
     details: "\
 Every other command does the same before anything else, and refuses a file that is not one.",
     example: "lentil check traces.vol",
-    run: check,
+    run: Run::Plain(check),
 };
 
 pub const REPORT: Command = Command {
@@ -59,7 +59,7 @@ pub const REPORT: Command = Command {
 Lines key=value: format, chunk size, nodes, entries and chunks in use, freed chunks, the next chunk
 that was never used, and the next node's number.",
     example: "lentil report traces.vol",
-    run: report,
+    run: Run::Plain(report),
 };
 
 const DEFAULT_SIZE: u64 = 64 << 20;

@@ -184,6 +184,13 @@ impl Answer {
         String::from_utf8(self.done()).unwrap()
     }
 
+    /// An exit code that is not for failures, and this text.
+    #[track_caller]
+    pub fn ended(self, code: i32, text: &str) {
+        assert_eq!((self.code, self.err.as_str()), (Some(code), ""));
+        assert_eq!(String::from_utf8(self.out).unwrap(), text);
+    }
+
     /// Exit code 1, and this message.
     #[track_caller]
     pub fn refused(self, message: &str) {

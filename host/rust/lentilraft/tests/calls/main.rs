@@ -4,5 +4,6 @@ mod files;
 mod helpers;
 mod names;
 mod rows;
+mod searches;
 mod unsound;
 mod volumes;

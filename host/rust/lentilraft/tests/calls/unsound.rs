@@ -22,7 +22,7 @@ const LAST_ROW: usize = FREE_WORDS + 8 * 4096 + 40 * 2 + 280 + 24 * 4095;
 type Call = fn(&mut Owned) -> Result<()>;
 
 /// Every call on a volume but new, as one that a sound volume would carry out.
-const CALLS: [(&str, Call); 18] = [
+const CALLS: [(&str, Call); 19] = [
     ("check", |v| v.check()),
     ("read", |v| v.read(FILE, 0, &mut [0; 4]).map(drop)),
     ("find", |v| v.find(ROOT, b"f").map(drop)),
@@ -30,6 +30,7 @@ const CALLS: [(&str, Call); 18] = [
     ("entries", |v| {
         v.entries(ROOT).try_for_each(|entry| entry.map(drop))
     }),
+    ("search", |v| v.search(ROOT, b"f", 0, 1).map(drop)),
     ("report", |v| v.report().map(drop)),
     ("node", |v| v.node(FILE).map(drop)),
     ("written", |v| v.written(FILE).map(drop)),
