@@ -13,8 +13,12 @@ pub const SEARCH: Command = Command {
     about: "look for a name in a folder, a part of it at a time",
     places: "VOLUME PATH NAME",
     options: &[
-        option("--from", "INDEX", "begin there, and not at the first name"),
-        option("--most", "COUNT", "look at no more names than so many"),
+        option("--from", "INDEX", "begin at that index (0)"),
+        option(
+            "--most",
+            "COUNT",
+            "look at no more names than that (no limit)",
+        ),
     ],
     details: "\
 PATH is the folder ('.' for the root), and NAME one name in it, not a path. Names are looked at in
@@ -29,8 +33,8 @@ If the folder is changed before a search goes on, names that were made meanwhile
     run: Run::Coded(search),
 };
 
-/// How a search ends. 1 and 2 are for failures, as with other commands: who takes a damaged volume
-/// for one without the name would be misled.
+/// How a search ends. 1 and 2 mean what they mean with other commands: with 1 for absent, a script
+/// would take a damaged volume for one without the name.
 const FOUND: i32 = 0;
 const ABSENT: i32 = 3;
 const STOPPED: i32 = 4;
