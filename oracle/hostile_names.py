@@ -2,8 +2,10 @@
 """oracle/hostile_names.py [FOLDER]: puts runs of refused calls behind the Rust's runs in FOLDER/stdin and FOLDER/stdout
 (crates/name_vectors), with the scope's answers by plain_model.py: the Rust differs on most of them, or cannot judge them. Every refusal
 of every call stands at least twice, at its edge where it has one; those that calls from a new volume cannot reach, behind a poke. The sum of all
-bytes stands behind each line, so that a refused call shows that it changed none. Run it after oracle/make-vectors."""
+bytes stands behind each line, so that a refused call shows that it changed none. Searches, which the Rust has not, come last: at every limit from
+every index of small directories, with one sum behind all of them. Run it after oracle/make-vectors."""
 import collections
+import itertools
 import pathlib
 import sys
 
@@ -17,6 +19,7 @@ DIRECTORY, FILE, SYMBOLIC_LINK = 0, 1, 2
 ANY, WANT_DIRECTORY, WANT_FILE = 0, 1, 2
 LARGEST = 2**40
 NEVER = 2**64 - 1
+HIGHEST = 2**32 - 1
 
 
 def hexed(*numbers):
@@ -75,6 +78,10 @@ def following(directory, index):
     return hexed(0xB, directory, index, 0, 0)
 
 
+def search(directory, name, first, most):
+    return named(0x10, directory, first, name, most)
+
+
 def chunk_size(span):
     return hexed(0xC, 0, span, 0, 0)
 
@@ -97,6 +104,11 @@ class Breaking(str):
 
 CHECK = poke(0, b"")
 SUM = hexed(0xF, 0, 0, 0, 0)
+
+
+def summed(calls):
+    return [line for call in calls for line in (call, SUM)]
+
 
 # where things stand in a volume whose tables have these rooms (docs/LAYOUT.md)
 ROOMS = (8, 8, 4)
@@ -125,6 +137,8 @@ NAMES = (
     + [create(8, b"x"), create(1, b"x", DIRECTORY), link(8, b"x", 1), link(1, b"", 1), create(99, b""), create(NEVER, b"x"), link(99, b"x", 1)]
     + [link(0, b"again", 7), link(0, b"root", 0), link(0, b"none", 99), link(0, b"n" * 256, 99)]
     + [following(1, 0), following(8, 1), following(99, 0), following(0, 2**32 - 1), following(7, 2), following(7, 0), following(7, 1)]
+    + [search(0, name, 0, NEVER) for name in BAD_NAMES + ODD_NAMES + [b"n" * 254, b"n" * 254 + b"m"]]
+    + [search(node, name, 0, 1) for node in (1, 8, 99, NEVER) for name in (b"in", b"", b"n" * 256)]
     + [read(0, 0, 1), read(7, 5, 3), write(0, 0, 1), write(7, 0, 0), resize(0, 1), resize(7, 0), limit(0, 5), limit(7, LARGEST)]
     + [read(99, 0, 1), write(99, 0, 0), resize(99, 0), limit(99, 1), write(NEVER, NEVER, 1), limit(NEVER, NEVER), remove(99), remove(NEVER)]
 )
@@ -140,7 +154,8 @@ PATHS = (
     + [unlink(0, path) for path in (b"", b".", b"folder/..", b"./.", b"//"[1:])]
     + [unlink(0, b"folder", WANT_FILE), unlink(0, b"folder/sub", WANT_FILE, 1), unlink(0, b"folder"), unlink(0, b"folder", WANT_DIRECTORY, 9)]
     + [unlink(0, b"folder/file", WANT_DIRECTORY), unlink(0, b"link", WANT_DIRECTORY, 3), unlink(0, b"folder/file", WANT_FILE, 1), unlink(0, b"folder/sub", ANY, NEVER)]
-    + [remove(0), remove(1), remove(2), unlink(0, b"folder/sub", WANT_DIRECTORY), create(3, b"late"), link(3, b"late", 2), following(3, 0), create(3, b""), find(3, b""), find(3, b"x"), remove(3), remove(3)]
+    + [remove(0), remove(1), remove(2), unlink(0, b"folder/sub", WANT_DIRECTORY), create(3, b"late"), link(3, b"late", 2), following(3, 0), create(3, b""), find(3, b""), find(3, b"x")]
+    + [search(3, b"x", 0, 0), search(3, b"x", 0, NEVER), search(3, b"..", HIGHEST, 0), remove(3), remove(3), search(3, b"x", 0, 1)]
     + [unlink(0, b"folder/file", WANT_FILE), remove(2), unlink(0, b"folder", WANT_DIRECTORY), remove(1), find(0, b"link"), find(0, b"folder")]
 )
 
@@ -176,9 +191,10 @@ LAST_NODE = (
 )
 
 # The greatest index of a directory is the greatest number, or one before it.
-HIGHEST = 2**32 - 1
 LAST_INDEX = (
     [volume(*ROOMS), create(0, b"a"), create(0, b"folder", DIRECTORY), create(2, b"in"), poke_index(1, HIGHEST - 1), create(0, b"b"), following(0, HIGHEST - 1), following(0, HIGHEST)]
+    + [search(0, b"b", first, most) for first, most in ((0, 1), (0, 2), (0, 3), (HIGHEST - 1, 1), (HIGHEST, 0), (HIGHEST, 1))]
+    + [search(0, name, first, NEVER) for name in (b"folder", b"in") for first in (2, HIGHEST - 1, HIGHEST)]
     + [create(0, b"c"), create(0, b"c", DIRECTORY), link(0, b"c", 1), link(0, b"d", 3), create(0, b"a"), link(0, b"b", 1), create(0, b"c", 3), link(0, b"c", 2), create(2, b"c")]
     + [unlink(0, b"b"), link(0, b"c", 1), following(0, 3), create(0, b"d"), unlink(0, b"a"), create(0, b"d"), link(0, b"d", 1), poke_index(3, HIGHEST), create(2, b"e"), link(2, b"e", 1)]
     + [poke_word(NEXT_NODE, NEVER), create(2, b"e"), create(0, b"e", DIRECTORY), link(2, b"e", 1), unlink(0, b"folder/c"), link(2, b"e", 1), following(2, 2)]
@@ -189,6 +205,7 @@ LAST_INDEX = (
 OWN_ENTRY = (
     [volume(*ROOMS), create(0, b"d", DIRECTORY), Breaking(poke_word(ENTRY_ROWS, 1)), Breaking(poke_word(NODE_ROWS + 24, 0)), poke_word(NODE_ROWS + 40 + 24, 1)]
     + [find(1, b"d"), find(1, b"d/d/./d"), find(0, b"d"), following(1, 0), following(1, 2), following(0, 0)]
+    + [search(1, b"d", 0, 1), search(1, b"d", 1, 0), search(1, b"d", 2, 1), search(0, b"d", 0, 1)]
     + [unlink(1, b"d"), unlink(1, b"d/d", WANT_DIRECTORY), unlink(1, b"d", WANT_FILE, 1), unlink(0, b"d"), remove(1), create(1, b"d"), link(1, b"d", 1), link(1, b"x", 1)]
     + [create(1, b"f"), link(1, b"d/g", 2), link(1, b"g", 2), find(1, b"d/d/g"), write(2, 4095, 3), unlink(1, b"d/d/f"), unlink(1, b"d/g", WANT_FILE), remove(2), unlink(1, b"d"), following(1, 1), report(512)]
 )
@@ -228,8 +245,8 @@ REPORTS = [volume(*ROOMS), report(0), report(110), report(511), report(512), rep
 
 # Every call, each one carried out on the volume before it is broken; and calls that have another reason to be refused, too.
 EVERY_CALL = (
-    [CHECK, read(1, 0, 9), write(1, 3, 2), write(1, 3, 0), resize(1, 4097), limit(1, LARGEST), create(0, b"new"), link(0, b"again", 1), unlink(0, b"gone"), remove(3), find(0, b"a"), following(0, 0), chunk_size(4096), report(512)]
-    + [read(99, 0, 1), write(0, 0, 1), resize(99, 0), limit(0, 1), create(99, b""), link(1, b"/", 0), unlink(0, b""), remove(0), find(99, b"/"), following(99, 0), chunk_size(1), report(0)]
+    [CHECK, read(1, 0, 9), write(1, 3, 2), write(1, 3, 0), resize(1, 4097), limit(1, LARGEST), create(0, b"new"), link(0, b"again", 1), unlink(0, b"gone"), remove(3), find(0, b"a"), following(0, 0), search(0, b"a", 0, 1), chunk_size(4096), report(512)]
+    + [read(99, 0, 1), write(0, 0, 1), resize(99, 0), limit(0, 1), create(99, b""), link(1, b"/", 0), unlink(0, b""), remove(0), find(99, b"/"), following(99, 0), search(99, b"", 0, 0), chunk_size(1), report(0)]
 )
 WHOLE = [volume(*ROOMS), create(0, b"a"), create(0, b"gone"), create(0, b"old"), write(1, 0, 9), write(2, 5, 1), unlink(0, b"old")]
 
@@ -254,6 +271,53 @@ SHORT = [line for length in (0, 63, 64, LENGTH - 1) for line in [hexed(1, length
 REFUSED_NEW = WHOLE + [volume(*ROOMS, span) for span in NO_SIZES] + [hexed(1, LENGTH, *rooms, span) for rooms, span in (
     ((0, 8, 4), 4096), ((8, 0, 4), 4096), ((8, 8, 0), 4096), ((4097, 1, 1), 4096), ((1, 4097, 1), 4096), ((1, 1, 4097), 4096), ((9, 8, 4), 4096), ((NEVER, 8, 4), 4096))] + EVERY_CALL
 
+# Directories of none, one, three and four entries, with gaps where links were; the last one's entries end the table. Limits whose low bits are few.
+FEW, SOME, EMPTY, LAST = range(1, 5)
+TO_SEARCH = (
+    [volume(16, 24, 4)]
+    + [create(0, name, DIRECTORY) for name in (b"few", b"some", b"empty", b"last")]
+    + [create(0, b"file"), create(FEW, b"e")]
+    + [link(SOME, b"1", 5), create(SOME, b"a"), create(SOME, b"b"), link(SOME, b"4", 5), create(SOME, b"c"), link(SOME, b"6", 5), link(SOME, b"7", 5), create(SOME, b"d")]
+    + [create(LAST, b"e"), create(LAST, b"a"), link(LAST, b"3", 5), create(LAST, b"c")]
+    + [unlink(SOME, name) for name in (b"1", b"4", b"6", b"7")]
+    + [unlink(LAST, b"3")]
+    + [search(SOME, name, 0, most) for name in (b"d", b"x") for most in (2**32, 2**32 + 3, 2**63)]
+)
+
+# The indexes of each directory's entries, and the names to look for: its own in index order, then one that only others have, then one that none has.
+SEARCHED = {
+    FEW: ([1], [b"e", b"a"]),
+    SOME: ([2, 3, 5, 8], [b"a", b"b", b"c", b"d", b"e", b"x"]),
+    EMPTY: ([], [b"e"]),
+    LAST: ([1, 2, 4], [b"e", b"a", b"c", b"d"]),
+}
+
+
+# every limit up to one more than there are entries, from every index next to an entry's
+def searches(directory, indexes, names):
+    firsts = {0, HIGHEST}.union(*({index - 1, index, index + 1} for index in indexes))
+    limits = [*range(len(indexes) + 2), NEVER]
+    return itertools.product([directory], names, sorted(firsts), limits)
+
+
+EVERY_SEARCH = [asked for directory, (indexes, names) in SEARCHED.items() for asked in searches(directory, indexes, names)]
+
+
+# What searches tell that go on where they stopped, with all entries that they looked at.
+def in_all(told, directory, name, first, most):
+    case, index, node, looked = told[directory, name, first, most]
+    if case != model.STOPPED:
+        return [case, index, node, looked]
+    *rest, more = in_all(told, directory, name, index, most)
+    return [*rest, looked + more]
+
+
+# They tell what one without a limit tells.
+def goes_on(answers):
+    told = {asked: [int(number) for number in answer.split()[1:]] for asked, answer in zip(EVERY_SEARCH, answers, strict=True)}
+    return all(in_all(told, *asked) == told[*asked[:3], NEVER] for asked in EVERY_SEARCH if asked[3] > 0)
+
+
 # The refusals of each call, as the scope has them.
 REFUSALS = {
     model.READ: {1, 2, 3},
@@ -266,6 +330,7 @@ REFUSALS = {
     model.REMOVE: {1, 2, 12},
     model.FIND: {1, 13, 8, 2, 9},
     model.NEXT_ENTRY: {1, 2, 4},
+    model.SEARCH: {1, 2, 4, 9},
     model.SET_CHUNK_SIZE: {1, 13},
     model.REPORT: {1, 15},
     model.POKE: {1},
@@ -289,11 +354,12 @@ def as_meant(line, answer):
 
 def main():
     folder = pathlib.Path(sys.argv[1]) if len(sys.argv) > 1 else HERE.parent / "crates/name_vectors"
-    runs = NAMES + PATHS + FULL + ROOM + SPARSE + LAST_NODE + LAST_INDEX + CHUNK_SIZES + NEW_VOLUMES + FILES_BETWEEN + REPORTS + BROKEN + LOOSE + SHORT + REFUSED_NEW + OWN_ENTRY
-    lines = [line for call in runs for line in (call, SUM)]
-    answers = list(model.worked_out("name_vectors", "\n".join(lines), False))
+    runs = NAMES + PATHS + FULL + ROOM + SPARSE + LAST_NODE + LAST_INDEX + CHUNK_SIZES + NEW_VOLUMES + FILES_BETWEEN + REPORTS + BROKEN + LOOSE + SHORT + REFUSED_NEW + OWN_ENTRY + TO_SEARCH
+    lines = summed(runs) + [search(*asked) for asked in EVERY_SEARCH] + [SUM]
+    answers = model.worked_out("name_vectors", "\n".join(lines), False)
     assert not amiss(lines, answers), amiss(lines, answers)
     assert all(map(as_meant, lines, answers))
+    assert goes_on(answers[-1 - len(EVERY_SEARCH) : -1])
     before = (folder / "stdin").read_text().rstrip("\n").split("\n")
     assert before[-1] == END
     (folder / "stdin").write_text("\n".join(before[:-1] + lines + [END]) + "\n")

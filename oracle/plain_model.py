@@ -42,6 +42,9 @@ LONGEST_MEMORY = 1_572_864  # of a run
 # what unlink may be told to expect
 ANY, A_DIRECTORY, A_FILE = range(3)
 
+# what a search comes to
+ABSENT, FOUND, STOPPED = range(3)
+
 
 class Refused(Exception):
     def __init__(self, number):
@@ -327,6 +330,21 @@ class Volume:
         name, node = self.entries[directory][found]
         return found, node, name
 
+    # what it comes to, the index, the node, and how many entries were looked at
+    def search(self, directory, name, first, most):
+        refuse_if(not self.node(directory).is_directory(), NOT_DIRECTORY)
+        refuse_if(not is_name(name), BAD_NAME)
+        looked = 0
+        for index, (known, node) in sorted(self.entries[directory].items()):
+            if index < first:
+                continue
+            if looked == most:
+                return STOPPED, index, 0, looked
+            looked += 1
+            if known == name:
+                return FOUND, index, node, looked
+        return ABSENT, 0, 0, looked
+
     # -- bytes
 
     def memory(self):
@@ -431,9 +449,12 @@ def open_allocator(memory):
 
 # ---- the oracle's lists
 
-READ, WRITE, RESIZE, SET_LIMIT, CREATE, LINK_CALL, UNLINK, REMOVE, FIND, NEXT_ENTRY, SET_CHUNK_SIZE, REPORT, POKE, SUM = range(2, 16)
-WITH_TEXT = (CREATE, LINK_CALL, UNLINK, FIND, POKE)
+READ, WRITE, RESIZE, SET_LIMIT, CREATE, LINK_CALL, UNLINK, REMOVE, FIND, NEXT_ENTRY, SET_CHUNK_SIZE, REPORT, POKE, SUM, SEARCH = range(2, 17)
+WITH_TEXT = (CREATE, LINK_CALL, UNLINK, FIND, POKE, SEARCH)
 GIVES_BYTES = (READ, REPORT)
+
+# what calls that tell several numbers tell of a refusal
+NOTHING_TOLD = {NEXT_ENTRY: [0, 0], SEARCH: [0, 0, 0, 0]}
 
 
 # byte i that a seed makes is (seed + 7 i) mod 251, plus 1
@@ -448,7 +469,7 @@ def filled(seed, length):
 
 
 def carry_out(v, call, node, place, length, seed, text, buffer):
-    """The count, the node or 0; for next entry a list: index, node and the bytes of the name."""
+    """The count, the node or 0; for next entry a list: index, node and the bytes of the name; for a search its four numbers."""
     if call == READ:
         return v.read(node, place, buffer)
     if call == WRITE:
@@ -473,6 +494,8 @@ def carry_out(v, call, node, place, length, seed, text, buffer):
         return v.report(buffer)
     if call == POKE:
         return v.check()
+    if call == SEARCH:
+        return v.search(node, text, place, seed)
     index, found, name = v.next_entry(node, place)
     return [index, found, *name]
 
@@ -482,8 +505,8 @@ def answer(v, call, node, place, length, seed, text):
     try:
         number, told = 0, carry_out(v, call, node, place, length, seed, text, buffer)
     except Refused as refusal:
-        number, told = refusal.number, [0, 0] if call == NEXT_ENTRY else 0
-    numbers = [number, *told] if call == NEXT_ENTRY else [number, told]
+        number, told = refusal.number, NOTHING_TOLD.get(call, 0)
+    numbers = [number, *told] if call in NOTHING_TOLD else [number, told]
     if call in GIVES_BYTES:
         numbers.append(zlib.adler32(buffer))
     return numbers
@@ -518,7 +541,8 @@ def printed(kind, call, numbers, v, node):
     return " ".join(map(str, numbers))
 
 
-def worked_out(kind, text, check):
+def steps(kind, text, check):
+    """Each line, what it comes to, and the volume behind it."""
     begin = {"name_vectors": names_volume, "file_vectors": files_volume}[kind]
     lines = iter(text.splitlines())
     lent, v = bytearray(LONGEST_MEMORY), Unsound(b"")
@@ -530,20 +554,24 @@ def worked_out(kind, text, check):
             before = v.memory()
             lent[: len(before)] = before
             v, told = begin(numbers, lines, lent)
-            yield told
+            yield line, told, v
             continue
         if call == SUM:
-            yield "sum %d" % zlib.adler32(v.memory())
+            yield line, "sum %d" % zlib.adler32(v.memory()), v
             continue
         node, place, length, seed, *bytes_ = numbers
         assert len(bytes_) == (length if call in WITH_TEXT else 0)
         if call == POKE:
             v = poked(v, place, bytes(bytes_))
-        yield printed(kind, call, answer(v, call, node, place, length, seed, bytes(bytes_)), v, node)
+        yield line, printed(kind, call, answer(v, call, node, place, length, seed, bytes(bytes_)), v, node), v
         if check and not isinstance(v, Unsound):
             memory = v.memory()
             assert not judge.broken(memory), judge.broken(memory)
             assert opened(memory).memory() == memory
+
+
+def worked_out(kind, text, check):
+    return [told for _, told, _ in steps(kind, text, check)]
 
 
 def answers_beside(path):
@@ -560,7 +588,7 @@ def main(kind, *files):
     calls = runs = 0
     for path in map(pathlib.Path, files):
         expected = answers_beside(path).read_text().splitlines()
-        found = list(worked_out(kind, path.read_text(), check))
+        found = worked_out(kind, path.read_text(), check)
         for number, (one, other) in enumerate(zip(expected, found, strict=True), 1):
             if one != other:
                 print("%s: line %d of the answers: %s there, %s here" % (path, number, one, other))

@@ -1,6 +1,7 @@
 #!/usr/bin/env python3
 """oracle/sequences.py [FOLDER [bulk]]: makes the stdin and the stdout of crates/sequence_vectors: sequences of calls that seeds draw, what each
-call answers, and what then stands in every node. It prints how often each call had each number. With `bulk` there are many more.
+call answers, and what then stands in every node. It prints how often each call had each number, a search with what it came to. With `bulk` there are
+many more.
 
 What a call answers is plain_model.py's. What stands in the nodes comes from `Plain`: files as arrays of bytes, directories as lists. It knows of a
 call only whether it was carried out, and nothing of chunks. After each call the two must show the same."""
@@ -22,6 +23,7 @@ LEAST_OUTPUT = 512
 SELDOM = 8
 LETTERS, DIGITS = 4, 32
 NODES, ROWS = 4096, 12
+FIRSTS, LOOKS = 4, 5
 
 KINDS = (
     ["read"] * 5
@@ -34,6 +36,7 @@ KINDS = (
     + ["unlink"] * 8
     + ["remove"] * 5
     + ["next_entry"] * 2
+    + ["search"] * 4
     + ["report", "check", "set_chunk_size", "new_volume"]
 )
 
@@ -132,6 +135,7 @@ def arguments(kind, draw, span, last):
         "unlink": (start, path(draw), picked([(model.A_DIRECTORY, 1), (model.A_FILE, 1), (model.ANY, 6)], draw.other), int(draw.place % SELDOM == 0)),
         "remove": (target,),
         "next_entry": (start, draw.other % ROWS),
+        "search": (start, name(draw), draw.other % FIRSTS, draw.place % LOOKS),
         "report": (model.filled(draw.text, around(LEAST_OUTPUT, draw.length)),),
         "check": (),
         "set_chunk_size": (chunk_size(draw.other),),
@@ -211,6 +215,17 @@ class Plain:
     def leave(self, folder, text):
         self.folders[folder] = [entry for entry in self.folders[folder] if entry[2] != text]
 
+    # what a search comes to, by the position of the name among the entries from an index on
+    def searched(self, folder, text, first, most):
+        entries = [entry for entry in self.folders[folder] if entry[0] >= first]
+        position = next((i for i, entry in enumerate(entries, 1) if entry[2] == text), most + 1)
+        if position <= most:
+            index, node, _ = entries[position - 1]
+            return model.FOUND, index, node, position
+        if most < len(entries):
+            return model.STOPPED, entries[most][0], 0, most
+        return model.ABSENT, 0, 0, len(entries)
+
     def links(self, node):
         return sum(entry[1] == node for entries in self.folders.values() for entry in entries) + (node == 0)
 
@@ -240,6 +255,10 @@ def entry_told(index, node, text):
     return joined(joined(index, node), zlib.adler32(text))
 
 
+def search_told(case, index, node, looked):
+    return joined(joined(joined(case, index), node), looked)
+
+
 # the same of the model with chunks
 def volume_agrees(plain, v):
     assert sorted(v.nodes) == sorted(plain.kinds)
@@ -265,14 +284,18 @@ def sequence(seed, calls, rooms, span, area=65536):
 
 
 SEQUENCES = (
-    [sequence(1280 + i, 40, rooms, SMALL) for i, rooms in enumerate([(1, 1, 1), (2, 1, 1), (2, 2, 2)])]
-    + [sequence(1380 + i, 160, rooms, SMALL) for i, rooms in enumerate([(3, 6, 2), (4, 4, 4), (5, 8, 3), (6, 3, 8), (8, 8, 8)])]
-    + [sequence(1480 + i, 240, (12, 16, chunks), SMALL, area) for i, (chunks, area) in enumerate([(16, 65536), (12, 70000), (24, 69631), (6, 65536), (16, 131072)])]
-    + [sequence(1680 + i, 160, rooms, HALF_MIDDLE, area) for i, (rooms, area) in enumerate([((4, 5, 4), 65536), ((8, 8, 12), 73728), ((12, 12, 6), 65537)])]
-    + [sequence(2280 + i, 160, rooms, MIDDLE) for i, rooms in enumerate([(3, 3, 1), (5, 6, 3), (8, 8, 8), (12, 12, 12)])]
-    + [sequence(2680 + i, 120, rooms, HALF_LARGE, area) for i, (rooms, area) in enumerate([((4, 5, 2), 65536), ((6, 6, 5), 131071), ((8, 8, 8), 200000)])]
-    + [sequence(3280 + i, 120, rooms, LARGE, area) for i, (rooms, area) in enumerate([((4, 5, 2), 65536), ((5, 5, 5), 131073), ((8, 8, 8), 200000)])]
+    [sequence(1283 + i, 40, rooms, SMALL) for i, rooms in enumerate([(1, 1, 1), (2, 1, 1), (2, 2, 2)])]
+    + [sequence(1383 + i, 160, rooms, SMALL) for i, rooms in enumerate([(3, 6, 2), (4, 4, 4), (5, 8, 3), (6, 3, 8), (8, 8, 8)])]
+    + [sequence(1483 + i, 240, (12, 16, chunks), SMALL, area) for i, (chunks, area) in enumerate([(16, 65536), (12, 70000), (24, 69631), (6, 65536), (16, 131072)])]
+    + [sequence(1683 + i, 160, rooms, HALF_MIDDLE, area) for i, (rooms, area) in enumerate([((4, 5, 4), 65536), ((8, 8, 12), 73728), ((12, 12, 6), 65537)])]
+    + [sequence(2283 + i, 160, rooms, MIDDLE) for i, rooms in enumerate([(3, 3, 1), (5, 6, 3), (8, 8, 8), (12, 12, 12)])]
+    + [sequence(2683 + i, 120, rooms, HALF_LARGE, area) for i, (rooms, area) in enumerate([((4, 5, 2), 65536), ((6, 6, 5), 131071), ((8, 8, 8), 200000)])]
+    + [sequence(3283 + i, 120, rooms, LARGE, area) for i, (rooms, area) in enumerate([((4, 5, 2), 65536), ((5, 5, 5), 131073), ((8, 8, 8), 200000)])]
 )
+
+
+# what calls that tell several things tell of a refusal
+NOTHING_TOLD = {"next_entry": (0, 0, b""), "search": (0, 0, 0, 0)}
 
 
 class Run:
@@ -295,14 +318,17 @@ class Run:
             number, told = 0, self.made(kind, args)
             self.plain.follow(kind, args, told)
         except model.Refused as refusal:
-            number, told = refusal.number, (0, 0, b"") if kind == "next_entry" else 0
-        self.seen[kind, number] += 1
+            number, told = refusal.number, NOTHING_TOLD.get(kind, 0)
+        self.seen[kind, (number, told[0]) if kind == "search" else number] += 1
         volume_agrees(self.plain, self.volume)
         return [number, *self.answer(kind, args, number, told)]
 
     def answer(self, kind, args, number, told):
         if kind == "next_entry":
             return [entry_told(*told)]
+        if kind == "search":
+            assert number != 0 or told == self.plain.searched(*args)
+            return [search_told(*told)]
         if kind == "read" and number == 0:
             assert args[2][:told] == self.plain.files[args[0]].read(args[1], told)
         return [told, zlib.adler32(args[-1])] if kind in ("read", "report") else [told]

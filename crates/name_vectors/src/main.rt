@@ -1,7 +1,7 @@
 // Replays runs of calls on names and files from the standard input, each on a new volume, and prints what each call answers.
 // oracle/README.md tells what each line means. Of a call's numbers, node is also a parent, a directory or a start; place an offset, a size, a limit,
 // a type, a target, an open count, an index, a chunk size, or where a poke goes; length that of the buffer, or of the name, path or poke behind
-// the numbers, and 1 where there is to be a limit; seed also what unlink expects.
+// the numbers, and 1 where there is to be a limit; seed also what unlink expects, and how many entries a search may look at.
 use libc::STDIN_FILENO;
 use libc::STDOUT_FILENO;
 use types::Answer;
@@ -43,6 +43,8 @@ const REPORT: u64 = 13;
 const POKE: u64 = 14;
 
 const SUM: u64 = 15;
+
+const SEARCH: u64 = 16;
 
 // The numbers of a new volume: the rooms of its three tables, and the chunk size.
 const FIELDS: usize = 4;
@@ -122,7 +124,7 @@ fn has_call(text: &[u8], at: usize) -> bool
         return false;
     }
     let first = vectors::number(text, at);
-    READ <= first.value && first.value <= SUM
+    READ <= first.value && first.value <= SEARCH
 }
 
 // The call at index at. Answers where the next one starts.
@@ -164,7 +166,7 @@ fn load(text: &[u8], call: Call, buffer: &mut [u8]) -> usize
 // Whether a name, a path or a poke stands behind the numbers of a line.
 fn has_text(name: u64) -> bool {
     match name {
-        CREATE | LINK | UNLINK | FIND | POKE => true,
+        CREATE | LINK | UNLINK | FIND | POKE | SEARCH => true,
         _ => false,
     }
 }
@@ -181,6 +183,7 @@ fn tell(volume: &mut [u8], call: Call, buffer: &mut [u8]) {
     let name = call.name;
     match name {
         NEXT_ENTRY => list(volume, call),
+        SEARCH => search(volume, call, buffer),
         SUM => print_sum(volume),
         _ => print_answer(ask(volume, call, buffer)),
     }
@@ -257,12 +260,27 @@ fn list(volume: &[u8], call: Call) {
     let mut number = 0;
     let mut index = 0;
     let mut node = 0;
-    let from = (call.place % INDEXES) as u32;
+    let from = index_of(call);
     let name = lentilraft::next_entry(volume, call.node, from, &mut number, &mut index, &mut node);
     io::print_decimal(STDOUT_FILENO, number as u64);
     print_number(index as u64);
     print_number(node);
     print_bytes(name);
+}
+
+// What came of a search: found, absent or stopped; an index, a node, and how many entries were looked at.
+fn search(volume: &[u8], call: Call, name: &[u8]) {
+    let search = lentilraft::search(volume, call.node, name, index_of(call), call.seed);
+    let told = vectors::search_numbers(search);
+    io::print_decimal(STDOUT_FILENO, told.number);
+    print_number(told.case);
+    print_number(told.index);
+    print_number(told.node);
+    print_number(told.looked);
+}
+
+fn index_of(call: Call) -> u32 {
+    (call.place % INDEXES) as u32
 }
 
 // All bytes of the volume, told by their sum.

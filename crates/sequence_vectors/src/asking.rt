@@ -7,6 +7,7 @@ use crate::showing;
 use types::Answer;
 use types::Expected;
 use types::Limit;
+use types::Search;
 ghost use Prim.Native.Nat.{_≤_};
 
 // Nodes that are tried at most.
@@ -14,6 +15,11 @@ const NODES: u64 = 4_096;
 
 // The most rows that a new volume in the middle has room for.
 const ROWS: u64 = 12;
+
+// A search starts from an index below the one, and looks at fewer entries than the other.
+const FIRSTS: u64 = 4;
+
+const LOOKS: u64 = 5;
 
 // Makes the call with as much of the buffer as it is lent, and prints its answer.
 pub(crate) fn call(volume: &mut [u8], draw: Draw, span: u64, buffer: &mut [u8]) {
@@ -33,7 +39,7 @@ fn ask(volume: &mut [u8], kind: Kind, draw: Draw, span: u64, buffer: &mut [u8]) 
 // A name, a path, or data: before a read or a report too, so that its sum shows what that leaves.
 fn load(kind: Kind, text: u64, buffer: &mut [u8]) {
     match kind {
-        Kind::Create | Kind::Link => draws::spell(buffer, text, false),
+        Kind::Create | Kind::Link | Kind::Search => draws::spell(buffer, text, false),
         Kind::Find | Kind::Unlink => draws::spell(buffer, text, true),
         _ => vectors::fill(buffer, text),
     }
@@ -54,6 +60,7 @@ fn tell(volume: &mut [u8], kind: Kind, draw: Draw, span: u64, buffer: &mut [u8])
             folder(draw.node, last),
             (draw.other % ROWS) as u32,
         ),
+        Kind::Search => showing::print_search(search(volume, draw, last, buffer)),
         _ => showing::print_answer(ask_volume(volume, kind, draw, span, last, buffer)),
     }
 }
@@ -174,6 +181,14 @@ fn ask_names(volume: &mut [u8], kind: Kind, draw: Draw, last: u64, text: &[u8]) 
         ),
         _ => lentilraft::remove(volume, file(draw.node, last)),
     }
+}
+
+fn search(volume: &[u8], draw: Draw, last: u64, name: &[u8]) -> Search
+    requires { ⌜ last ≤ 4095 ⌝ }
+{
+    let start = folder(draw.node, last);
+    let from = (draw.other % FIRSTS) as u32;
+    lentilraft::search(volume, start, name, from, draw.place % LOOKS)
 }
 
 fn limit(draw: u64, place: u64) -> Limit {

@@ -37,7 +37,7 @@ const LEAST_OUTPUT: u64 = 512;
 pub(crate) const SELDOM: u64 = 8;
 
 // Draws among the calls.
-const CALLS: u64 = 64;
+const CALLS: u64 = 68;
 
 // A text has so many different letters, and its number so many digits.
 const LETTERS: u64 = 4;
@@ -65,6 +65,7 @@ pub(crate) enum Kind {
     Unlink,
     Remove,
     NextEntry,
+    Search,
     Report,
     Check,
     SetChunkSize,
@@ -106,9 +107,10 @@ pub(crate) fn kind_of(draw: Draw) -> Kind {
         45..=52 => Kind::Unlink,
         53..=57 => Kind::Remove,
         58..=59 => Kind::NextEntry,
-        60 => Kind::Report,
-        61 => Kind::Check,
-        62 => Kind::SetChunkSize,
+        60..=63 => Kind::Search,
+        64 => Kind::Report,
+        65 => Kind::Check,
+        66 => Kind::SetChunkSize,
         _ => Kind::NewVolume,
     }
 }
@@ -163,7 +165,7 @@ fn around(edge: u64, draw: u64) -> u64
 pub(crate) fn lent(kind: Kind, draw: u64, span: u64) -> u64 {
     match kind {
         Kind::Read | Kind::Write => data_length(draw, span),
-        Kind::Create | Kind::Link => name_length(draw),
+        Kind::Create | Kind::Link | Kind::Search => name_length(draw),
         Kind::Find | Kind::Unlink => path_length(draw),
         Kind::Report => around(LEAST_OUTPUT, draw),
         _ => 0,

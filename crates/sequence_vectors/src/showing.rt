@@ -5,6 +5,7 @@ use types::Answer;
 use types::FileType;
 use types::Limit;
 use types::NodeRecord;
+use types::Search;
 use volume::Layout;
 use volume::Place;
 ghost use Rattle.tables.specs.Tables.{Ready};
@@ -25,6 +26,14 @@ pub(crate) fn print_entry(volume: &[u8], directory: u64, from: u32) {
     let entry = entry_from(volume, directory, from);
     io::print_decimal(STDOUT_FILENO, entry.number as u64);
     print_number(entry.told);
+}
+
+// A number that tells what came of a search, the index, the node and how many entries were looked at.
+pub(crate) fn print_search(search: Search) {
+    let told = vectors::search_numbers(search);
+    io::print_decimal(STDOUT_FILENO, told.number);
+    let entry = joined(joined(told.case, told.index), told.node);
+    print_number(joined(entry, told.looked));
 }
 
 pub(crate) fn print_number(n: u64) {

@@ -1,8 +1,10 @@
-// Test vectors: numbers read from text, bytes laid out from them or made of a seed, lines of calls, and a checksum to tell many bytes by.
+// Test vectors: numbers read from text, bytes laid out from them or made of a seed, lines of calls, a checksum to tell many bytes by, and the
+// numbers that a search is told by.
 // Text holds numbers in lower-case hexadecimal, with any other bytes between them.
 mod call;
 mod lay;
 mod scan;
+mod search;
 mod seed;
 mod sum;
 
@@ -17,6 +19,8 @@ pub use scan::Scan;
 pub use scan::bytes;
 pub use scan::number;
 pub use scan::numbers;
+pub use search::SearchNumbers;
+pub use search::search_numbers;
 pub use seed::fill;
 pub use sum::checksum;
 ghost use mathlib.Core.Path.{_≡_};
