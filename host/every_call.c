@@ -103,7 +103,8 @@ static uint64_t create(uint64_t parent, const char *name, uint8_t type)
     return node;
 }
 
-/* Find follows a path from any directory, here from the root. A path does not begin with `/`. */
+/* Find follows a path from any directory, here from the root. A path does not begin with `/`; one that ends with it means a directory, and leads
+   to no file. */
 static void find(const char *path)
 {
     uint64_t node;
@@ -234,6 +235,8 @@ int main(void)
     create(folder, "newest", LENTILRAFT_TYPE_SYMBOLIC_LINK);
     find("traces/hood-7");
     find("traces/hood-8");
+    find("traces/hood-7/");
+    find("traces/");
     list(folder);
     search(folder, "newest", UINT64_MAX);
     search(folder, "newest", 1);

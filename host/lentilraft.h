@@ -102,14 +102,16 @@ uint32_t lentilraft_create(uint8_t *volume, size_t length, uint64_t parent, cons
 uint32_t lentilraft_link(uint8_t *volume, size_t length, uint64_t parent, const uint8_t *name, size_t name_length, uint64_t target);
 
 /* Finds the node that a path leads to from a start, and tells it. Parts stand between `/`; empty parts and `.` are dropped, and `..` drops the part
-   before it. A path with no parts left leads to the start itself.
+   before it. A path with no parts left leads to the start itself. Any other path that ends with `/`, `/.` or `/..` must lead to a directory, or to a
+   symbolic link, which is not followed.
    1: unsound memory. 13: the path has more than 4,096 bytes. 8: a leading `/`, or a `..` with no part before it. 2: no such start. Then, part by
-   part, 9: more than 255 bytes; or 2: no entry of that name there. */
+   part, 9: more than 255 bytes; or 2: no entry of that name there. 4: a path with such an end leads to a regular file. */
 uint32_t lentilraft_find_node(const uint8_t *volume, size_t length, uint64_t start, const uint8_t *path, size_t path_length, uint64_t *node);
 
-/* Takes the name that a path leads to from a start out of its directory, and tells the node that it named. The node and its bytes stay, also
-   without a name: link names it again, remove takes it away. Expected is one of enum lentilraft_expected; opens is how many have the node open.
-   1: unsound memory. 13: no such thing to expect. Then find's 13, 8 (also for a path with no parts), 2 and 9. 3: a directory, and a file was
+/* Takes the name that a path leads to from a start out of its directory, and tells the node that it named. The path is read as in find. The node and
+   its bytes stay, also without a name: link names it again, remove takes it away. Expected is one of enum lentilraft_expected; opens is how many have
+   the node open.
+   1: unsound memory. 13: no such thing to expect. Then find's 13, 8 (also for a path with no parts), 2, 9 and 4. 3: a directory, and a file was
    expected. 11: a directory that is not empty. 4: no directory, and one was expected. 12: it is open, and this is its last name. */
 uint32_t lentilraft_unlink(uint8_t *volume, size_t length, uint64_t start, const uint8_t *path, size_t path_length, uint8_t expected, uint64_t opens, uint64_t *node);
 

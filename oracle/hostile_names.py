@@ -2,8 +2,9 @@
 """oracle/hostile_names.py [FOLDER]: puts runs of refused calls behind the Rust's runs in FOLDER/stdin and FOLDER/stdout
 (crates/name_vectors), with the scope's answers by plain_model.py: the Rust differs on most of them, or cannot judge them. Every refusal
 of every call stands at least twice, at its edge where it has one; those that calls from a new volume cannot reach, behind a poke. The sum of all
-bytes stands behind each line, so that a refused call shows that it changed none. Searches, which the Rust has not, come last: at every limit from
-every index of small directories, with one sum behind all of them. Run it after oracle/make-vectors."""
+bytes stands behind each line, so that a refused call shows that it changed none. Paths that mean a directory, which the Rust's runs leave out, stand
+here with what they lead to, too. Searches, which the Rust has not, come last: at every limit from every index of small directories, with one sum behind
+all of them. Run it after oracle/make-vectors."""
 import collections
 import itertools
 import pathlib
@@ -123,6 +124,8 @@ def poke_index(place, index):
     return poke(ENTRY_ROWS + 280 * place + 16, index.to_bytes(4, "little"))
 
 
+LONG_NAME = b"n" * model.LONGEST_NAME
+TOO_LONG_NAME = LONG_NAME + b"n"
 BAD_NAMES = [b"", b".", b"..", b"/", b"a/b", b"a/", bytes(256), b"n" * 256]
 ODD_NAMES = [b"...", b"\x00", b"\xff\xfe", b" ", b"n" * 255, b".hidden"]
 
@@ -157,6 +160,48 @@ PATHS = (
     + [remove(0), remove(1), remove(2), unlink(0, b"folder/sub", WANT_DIRECTORY), create(3, b"late"), link(3, b"late", 2), following(3, 0), create(3, b""), find(3, b""), find(3, b"x")]
     + [search(3, b"x", 0, 0), search(3, b"x", 0, NEVER), search(3, b"..", HIGHEST, 0), remove(3), remove(3), search(3, b"x", 0, 1)]
     + [unlink(0, b"folder/file", WANT_FILE), remove(2), unlink(0, b"folder", WANT_DIRECTORY), remove(1), find(0, b"link"), find(0, b"folder")]
+)
+
+# What paths that mean a directory end with; and what stands in front: every kind of node, a file by two names, names that are dots or long.
+ENDS = [b"/", b"//", b"/.", b"/./", b"/x/..", b"/x/../", b"/.//x/./.."]
+A_FILE, A_LINK, A_FOLDER = range(1, 4)
+TREE = (
+    [volume(16, 16, 4), create(0, b"hood7.csv"), create(0, b"link", SYMBOLIC_LINK), create(0, b"folder", DIRECTORY), create(A_FOLDER, b"sub", DIRECTORY)]
+    + [link(A_FOLDER, b"again", A_FILE), create(0, b"..."), create(A_FOLDER, LONG_NAME)]
+)
+TO_FILES = [b"hood7.csv", b"folder/again", b"...", b"folder/" + LONG_NAME]
+
+
+# a path with as many slashes behind it as make it so long
+def stretched(path, length):
+    return path + b"/" * (length - len(path))
+
+
+# Only a directory or a symbolic link is found by such a path, or unlinked. A path that ends with a name may lead to a file, and one with no part gives
+# the start, even a file. What is unlinked is put back.
+MEANT = (
+    TREE
+    + [find(0, path + end) for path in TO_FILES + [b"link", b"folder", b"folder/sub"] for end in [b"", *ENDS]]
+    + [find(0, path) for path in (b"folder/../hood7.csv", b"hood7.csv/../hood7.csv", b"hood7.csv/../hood7.csv/", b"folder/again/..", b"hood7.csv/.x", b"hood7.csv/../...")]
+    + [act(start, path) for act in (find, unlink) for start in (A_FILE, A_LINK, A_FOLDER) for path in (b"", b".", b"./", b"x/..", b"x/../.")]
+    + [unlink(0, path + end) for path in TO_FILES + [b"folder"] for end in ENDS]
+    + [line for end in ENDS for line in (unlink(0, b"folder/sub" + end), create(A_FOLDER, b"sub", DIRECTORY), unlink(0, b"link" + end), link(0, b"link", A_LINK))]
+)
+
+# The refusals of the walk come before, but a part that `..` drops is not looked up; those of unlink alone come behind. The longest paths, and a byte more.
+IN_TURN = (
+    TREE
+    + [act(start, path) for act in (find, unlink) for start, path in (
+        (0, b"/hood7.csv/"), (0, b"hood7.csv/../.."), (99, b"hood7.csv/"), (0, b"missing/"), (0, b"folder/missing/."), (0, b"hood7.csv/x/"),
+        (0, b"hood7.csv/x/y/.."), (0, b"link/x/"), (A_FILE, b"x/"), (0, TOO_LONG_NAME + b"/"), (0, b"hood7.csv/" + TOO_LONG_NAME + b"/"),
+        (0, b"hood7.csv/x/.."), (0, b"hood7.csv/" + TOO_LONG_NAME + b"/.."), (0, b"folder/" + TOO_LONG_NAME + b"/.."))]
+    + [unlink(0, path, expected, opens) for path in (b"hood7.csv/", b".../", b"folder/again/.", b"folder/") for expected in (ANY, WANT_DIRECTORY, WANT_FILE) for opens in (0, 1)]
+    + [unlink(0, b"folder/sub/", WANT_FILE), unlink(0, b"folder/sub/", WANT_FILE, 1), unlink(0, b"folder/sub/", ANY, 1), unlink(0, b"folder/sub/", WANT_DIRECTORY, NEVER)]
+    + [unlink(0, b"link/", WANT_DIRECTORY), unlink(0, b"link/", WANT_DIRECTORY, 1), unlink(0, b"link/", ANY, 1), unlink(0, b"link/", WANT_FILE, NEVER)]
+    + [act(0, stretched(b"hood7.csv", length)) for act in (find, unlink) for length in (model.LONGEST_PATH, model.LONGEST_PATH + 1)]
+    + [find(0, stretched(b"folder/sub", model.LONGEST_PATH)), unlink(0, stretched(b"folder/sub", model.LONGEST_PATH), WANT_DIRECTORY), find(0, b"folder/sub/")]
+    + [unlink(0, b"link/", WANT_FILE), find(0, b"link/"), link(0, b"link", A_LINK), link(0, b"other", A_LINK), unlink(0, b"link/.", ANY, 1), unlink(0, b"other/x/..")]
+    + [unlink(0, b"hood7.csv"), find(0, b"hood7.csv/"), find(0, b"folder/again/"), unlink(0, b"folder/again/", ANY, 1), unlink(0, b"folder/again", ANY, 1), unlink(0, b"folder/again")]
 )
 
 # Tables that are full, and full again after a place became free.
@@ -204,9 +249,9 @@ LAST_INDEX = (
 # A directory that is its own entry, which is sound, though no call makes one: found, listed, filled, and never taken out.
 OWN_ENTRY = (
     [volume(*ROOMS), create(0, b"d", DIRECTORY), Breaking(poke_word(ENTRY_ROWS, 1)), Breaking(poke_word(NODE_ROWS + 24, 0)), poke_word(NODE_ROWS + 40 + 24, 1)]
-    + [find(1, b"d"), find(1, b"d/d/./d"), find(0, b"d"), following(1, 0), following(1, 2), following(0, 0)]
+    + [find(1, b"d"), find(1, b"d/d/./d"), find(1, b"d/d/."), find(0, b"d"), following(1, 0), following(1, 2), following(0, 0)]
     + [search(1, b"d", 0, 1), search(1, b"d", 1, 0), search(1, b"d", 2, 1), search(0, b"d", 0, 1)]
-    + [unlink(1, b"d"), unlink(1, b"d/d", WANT_DIRECTORY), unlink(1, b"d", WANT_FILE, 1), unlink(0, b"d"), remove(1), create(1, b"d"), link(1, b"d", 1), link(1, b"x", 1)]
+    + [unlink(1, b"d"), unlink(1, b"d/d", WANT_DIRECTORY), unlink(1, b"d/d/"), unlink(1, b"d", WANT_FILE, 1), unlink(0, b"d"), remove(1), create(1, b"d"), link(1, b"d", 1), link(1, b"x", 1)]
     + [create(1, b"f"), link(1, b"d/g", 2), link(1, b"g", 2), find(1, b"d/d/g"), write(2, 4095, 3), unlink(1, b"d/d/f"), unlink(1, b"d/g", WANT_FILE), remove(2), unlink(1, b"d"), following(1, 1), report(512)]
 )
 
@@ -246,7 +291,7 @@ REPORTS = [volume(*ROOMS), report(0), report(110), report(511), report(512), rep
 # Every call, each one carried out on the volume before it is broken; and calls that have another reason to be refused, too.
 EVERY_CALL = (
     [CHECK, read(1, 0, 9), write(1, 3, 2), write(1, 3, 0), resize(1, 4097), limit(1, LARGEST), create(0, b"new"), link(0, b"again", 1), unlink(0, b"gone"), remove(3), find(0, b"a"), following(0, 0), search(0, b"a", 0, 1), chunk_size(4096), report(512)]
-    + [read(99, 0, 1), write(0, 0, 1), resize(99, 0), limit(0, 1), create(99, b""), link(1, b"/", 0), unlink(0, b""), remove(0), find(99, b"/"), following(99, 0), search(99, b"", 0, 0), chunk_size(1), report(0)]
+    + [read(99, 0, 1), write(0, 0, 1), resize(99, 0), limit(0, 1), create(99, b""), link(1, b"/", 0), unlink(0, b""), unlink(0, b"a/"), remove(0), find(99, b"/"), find(0, b"a/"), following(99, 0), search(99, b"", 0, 0), chunk_size(1), report(0)]
 )
 WHOLE = [volume(*ROOMS), create(0, b"a"), create(0, b"gone"), create(0, b"old"), write(1, 0, 9), write(2, 5, 1), unlink(0, b"old")]
 
@@ -328,7 +373,7 @@ REFUSALS = {
     model.LINK_CALL: {1, 2, 4, 9, 3, 10, 7, 14},
     model.UNLINK: {1, 13, 8, 2, 9, 3, 11, 4, 12},
     model.REMOVE: {1, 2, 12},
-    model.FIND: {1, 13, 8, 2, 9},
+    model.FIND: {1, 13, 8, 2, 9, 4},
     model.NEXT_ENTRY: {1, 2, 4},
     model.SEARCH: {1, 2, 4, 9},
     model.SET_CHUNK_SIZE: {1, 13},
@@ -354,7 +399,7 @@ def as_meant(line, answer):
 
 def main():
     folder = pathlib.Path(sys.argv[1]) if len(sys.argv) > 1 else HERE.parent / "crates/name_vectors"
-    runs = NAMES + PATHS + FULL + ROOM + SPARSE + LAST_NODE + LAST_INDEX + CHUNK_SIZES + NEW_VOLUMES + FILES_BETWEEN + REPORTS + BROKEN + LOOSE + SHORT + REFUSED_NEW + OWN_ENTRY + TO_SEARCH
+    runs = NAMES + PATHS + MEANT + IN_TURN + FULL + ROOM + SPARSE + LAST_NODE + LAST_INDEX + CHUNK_SIZES + NEW_VOLUMES + FILES_BETWEEN + REPORTS + BROKEN + LOOSE + SHORT + REFUSED_NEW + OWN_ENTRY + TO_SEARCH
     lines = summed(runs) + [search(*asked) for asked in EVERY_SEARCH] + [SUM]
     answers = model.worked_out("name_vectors", "\n".join(lines), False)
     assert not amiss(lines, answers), amiss(lines, answers)

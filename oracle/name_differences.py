@@ -131,6 +131,12 @@ CASES = [
     ("path-long", [], [("find ./ 2,049 times", find(0, b"./" * 2049))]),
     ("unlink-no-parts", [], [("unlink %r" % path, unlink(0, path)) for path in (b"", b".", b"a/..")]),
     (
+        "folder-path",
+        [f, create(0, FILE, b"hood7.csv"), d, create(0, SYMBOLIC_LINK, b"l")],
+        [("find %s" % path, find(0, path.encode())) for path in ("f/", "f/.", "f/x/..", "hood7.csv/", "d/", "l/")]
+        + [("unlink f/ while it is open", unlink(0, b"f/", ANY, 1)), ("unlink f/", unlink(0, b"f/"))],
+    ),
+    (
         "unlink-v1-row",
         [f, g],
         [("unlink f beside g", unlink(0, b"f")), ("then list", next_entry(0, 0))],

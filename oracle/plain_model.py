@@ -77,6 +77,11 @@ def parts(path):
     return found
 
 
+# its last piece is empty, `.` or `..`, and a part is left
+def means_directory(path, names):
+    return len(names) > 0 and path.split(b"/")[-1] in (b"", b".", b"..")
+
+
 # ---- the volume
 
 
@@ -295,13 +300,19 @@ class Volume:
             entry, node = (node, found[0]), found[1]
         return node, entry
 
+    # the same; a path that means a directory must lead to one or to a symbolic link, which is not followed
+    def walk_path(self, start, path, names):
+        node, entry = self.walk(start, names)
+        refuse_if(means_directory(path, names) and self.nodes[node].kind not in (DIRECTORY, LINK), NOT_DIRECTORY)
+        return node, entry
+
     def find(self, start, path):
-        return self.walk(start, parts(path))[0]
+        return self.walk_path(start, path, parts(path))[0]
 
     def unlink(self, start, path, expected, opens):
         names = parts(path)
         refuse_if(not names, PATH_NOT_PERMITTED)
-        node, (parent, index) = self.walk(start, names)
+        node, (parent, index) = self.walk_path(start, path, names)
         row = self.nodes[node]
         if row.is_directory():
             refuse_if(expected == A_FILE, IS_DIRECTORY)

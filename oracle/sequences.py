@@ -102,7 +102,7 @@ def name(draw):
 
 
 def path(draw):
-    return spelled(picked([(0, 1), (1, 11), (3, 3), (5, 1)], draw.length), draw.text, True)
+    return spelled(picked([(0, 1), (1, 7), (2, 5), (3, 2), (5, 1)], draw.length), draw.text, True)
 
 
 def node(draw, last):

@@ -33,6 +33,7 @@ fn main() {
     refused_creates();
     links();
     paths();
+    folder_paths();
     listing();
 }
 
@@ -406,6 +407,24 @@ fn paths() {
     new_file(&mut v, "g").unwrap();
     let unlinked = v.rm_dir_entry(ROOT, "f", None, 0);
     show("unlink-v1-row", "V1 rows", (unlinked, v.storage.v1_rows()));
+}
+
+/// Paths that mean a directory: to a file; and to a directory and to a symbolic link, where both
+/// sides agree.
+fn folder_paths() {
+    let (mut v, _) = one_file();
+    new_file(&mut v, "hood7.csv").unwrap();
+    new_directory(&mut v, "d").unwrap();
+    v.create_symbolic_link(ROOT, b"l").unwrap();
+    for path in ["f/", "f/.", "f/x/..", "hood7.csv/", "d/", "l/"] {
+        show("folder-path", &format!("find {path}"), v.find(ROOT, path));
+    }
+    let (mut v, _) = one_file();
+    let unlinked = v.rm_dir_entry(ROOT, "f/", None, 1);
+    show("folder-path", "unlink f/ while it is open", unlinked);
+    let unlinked = v.rm_dir_entry(ROOT, "f/", None, 0);
+    let left = (unlinked, entries(&v, ROOT));
+    show("folder-path", "unlink f/, entries", left);
 }
 
 fn listing() {

@@ -34,7 +34,7 @@ fn fixed(crates: &Path) -> io::Result<()> {
     lists::write_one(&crates.join("path_vectors"), &paths, paths::summary)?;
     let runs = files::fixed(&mut Generator::new(5));
     lists::write_one(&crates.join("file_vectors"), &runs, files::summary)?;
-    let runs = names::fixed(&mut Generator::new(7));
+    let runs = names::fixed(&mut Generator::new(9));
     lists::write_one(&crates.join("name_vectors"), &runs, names::summary)
 }
 

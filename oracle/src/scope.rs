@@ -88,6 +88,13 @@ pub fn path_parts(path: &[u8]) -> Result<Vec<&[u8]>, u64> {
     Ok(parts)
 }
 
+/// Whether a path's last piece is empty, `.` or `..`, with a part left: it then means a directory.
+fn means_directory(path: &[u8]) -> bool {
+    let last_piece = path.rsplit(|&byte| byte == b'/').next();
+    let has_part = path_parts(path).is_ok_and(|parts| !parts.is_empty());
+    has_part && matches!(last_piece, Some(b"" | b"." | b".."))
+}
+
 /// The longest path that the scope takes; the Rust takes any.
 pub const MAX_PATH: usize = 4096;
 
@@ -168,12 +175,14 @@ fn new_name(volume: &Numbered, parent: u64, name: &str) -> Option<&'static str> 
         .or(when(entries.iter().any(|e| is_last(e.index)), "index-full"))
 }
 
-/// A path that is refused before any lookup needs no start.
+/// A path that is refused before any lookup needs no start. One that means a directory is left out
+/// wherever it leads: the Rust takes it as any other.
 fn looked_up(volume: &Numbered, start: u64, path: &str) -> Option<&'static str> {
     let is_permitted = path_parts(path.as_bytes()).is_ok();
     let is_missing = volume.metadata(start).is_none();
     when(path.len() > MAX_PATH, "path-long")
         .or(when(is_permitted && is_missing, "find-missing-start"))
+        .or(when(means_directory(path.as_bytes()), "folder-path"))
 }
 
 fn rows_used_up(volume: &Numbered) -> bool {

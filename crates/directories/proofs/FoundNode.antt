@@ -15,19 +15,20 @@ use Rattle.types.specs.declared.Error.the-variants.{PathNotPermitted}
 use Rattle.paths.specs.Path.{Cutting, parts, notPermitted, tooLong, cutPath}
 use Rattle.volume.specs.Volume.{Names}
 use Rattle.volume.specs.Sound.{Named}
-use Rattle.names.specs.Walks.{onCutting, walkFrom, nodeReached, findNode}
+use Rattle.names.specs.Walks.{onCutting, walkPath, nodeReached, findNode}
 use Rattle.directories.specs.declared.finding.Reached.{Reached}
 use Rattle.directories.specs.declared.finding.Reached.the-variants.{At, Stopped}
-use Rattle.directories.specs.Reaches.{reachFrom, reachPath}
-use Rattle.directories.proofs.Reaching.{walkShown, reach-shows}
+use Rattle.directories.specs.Reaches.{reachParts, reachPath}
+use Rattle.directories.proofs.Reaching.{walkShown}
+use Rattle.directories.proofs.ReachedDirectory.{parts-show}
 
 abbrev answerOf : Reached → Answer
 answerOf (At n p) = Done n
 answerOf (Stopped e) = Refused e
 
 module _ (start : ℕ) (path : List ℕ) (a : Names) (named : Named a) where
-  parts-answer : (ps : List (List ℕ)) → answerOf (reachFrom start a ps) ≡ nodeReached (walkFrom start a ps)
-  parts-answer ps = go (length ps) (reachFrom start a ps) ∙ ap nodeReached (sym (reach-shows start a (named .nodeOrder) (named .entryOrder) ps))
+  parts-answer : (ps : List (List ℕ)) → answerOf (reachParts start path a ps) ≡ nodeReached (walkPath start path a ps)
+  parts-answer ps = go (length ps) (reachParts start path a ps) ∙ ap nodeReached (sym (parts-show start path a named ps))
     where
       go : (k : ℕ) (r : Reached) → answerOf r ≡ nodeReached (walkShown (a .entries) k r)
       go zero (At n p) = unfold walkShown nodeReached in refl
@@ -38,7 +39,7 @@ module _ (start : ℕ) (path : List ℕ) (a : Names) (named : Named a) where
   unfolding findNode reachPath onCutting pick
   path-answers = go (cutPath path)
     where
-      go : (c : Cutting) → answerOf (onCutting Stopped (λ ps. pick (ltb (length ps) 0) (Stopped PathNotPermitted) (reachFrom start a ps)) c) ≡ onCutting Refused (λ ps. nodeReached (walkFrom start a ps)) c
+      go : (c : Cutting) → answerOf (onCutting Stopped (λ ps. pick (ltb (length ps) 0) (Stopped PathNotPermitted) (reachParts start path a ps)) c) ≡ onCutting Refused (λ ps. nodeReached (walkPath start path a ps)) c
       go (parts ps) = rw (le-ltb (length ps) 0 (omega arith)) (parts-answer ps)
       go notPermitted = refl
       go tooLong = refl

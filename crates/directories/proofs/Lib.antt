@@ -2,6 +2,7 @@ pub mod EntrySearch
 pub mod NamedEntry
 pub mod SearchSteps
 pub mod Reaching
+pub mod ReachedDirectory
 pub mod PathSteps
 pub mod FoundNode
 pub mod NextEntry

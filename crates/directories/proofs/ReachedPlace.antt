@@ -24,8 +24,9 @@ use Rattle.names.specs.Walks.{onCutting}
 use Rattle.directories.specs.declared.finding.Reached.{Reached}
 use Rattle.directories.specs.declared.finding.Reached.the-variants.{At, Stopped}
 use Rattle.directories.specs.Searches.{entryFound}
-use Rattle.directories.specs.Reaches.{reachedBy, reach, reachNext, reachAll, reachOf, reachFrom, reachPath}
+use Rattle.directories.specs.Reaches.{reachedBy, reach, reachNext, reachAll, reachOf, reachFrom, reachParts, reachPath}
 use Rattle.directories.proofs.NamedEntry.{entry-found}
+use Rattle.directories.proofs.ReachedDirectory.{parts-reached}
 
 module _ (es : List Entry) (asc : Asc entryBefore es) where
   one-inside : (n : ℕ) (part : List ℕ) {m q : ℕ} → At m q ≡ reach es n part → q < length es
@@ -68,11 +69,11 @@ module _ (start : ℕ) (a : Names) (asc : Asc entryBefore (a .entries)) where
       refused : {x : Error} → At n p ≡ Stopped x → p < length (a .entries)
       refused z = let x : _≡_ {A = ℕ} 0 1 = cc in absurd (omega arith)
 
-      enough : (ps : List (List ℕ)) (b : Bool) → ltb (length ps) least ≡ b → At n p ≡ pick b (Stopped PathNotPermitted) (reachFrom start a ps) → p < length (a .entries)
+      enough : (ps : List (List ℕ)) (b : Bool) → ltb (length ps) least ≡ b → At n p ≡ pick b (Stopped PathNotPermitted) (reachParts start path a ps) → p < length (a .entries)
       enough ps true h z = refused z
-      enough ps false h z = place-inside ps (λ k. absurd (false≢true (sym h ∙ lt-ltb (length ps) least (omega arith)))) z
+      enough ps false h z = place-inside ps (λ k. absurd (false≢true (sym h ∙ lt-ltb (length ps) least (omega arith)))) (parts-reached start path a ps z)
 
-      go : (c : Cutting) → At n p ≡ onCutting Stopped (λ ps. pick (ltb (length ps) least) (Stopped PathNotPermitted) (reachFrom start a ps)) c → p < length (a .entries)
+      go : (c : Cutting) → At n p ≡ onCutting Stopped (λ ps. pick (ltb (length ps) least) (Stopped PathNotPermitted) (reachParts start path a ps)) c → p < length (a .entries)
       go (parts ps) z = enough ps (ltb (length ps) least) refl z
       go notPermitted z = refused z
       go tooLong z = refused z

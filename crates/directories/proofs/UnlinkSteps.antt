@@ -28,17 +28,18 @@ use Rattle.tables.specs.declared.Found.the-variants as found
 use Rattle.tables.proofs.Found.{the-type}
 use Rattle.tables.proofs.TableSearch.{node-found, node-absent}
 use Rattle.files.proofs.LimitSteps.{Meets}
-use Rattle.names.specs.Walks.{onCutting, walkFrom}
+use Rattle.names.specs.Walks.{onCutting, walkPath}
 use Rattle.names.specs.Unlinking.{unlinked, unlinkNode, unlinkReached, unlink}
 use Rattle.directories.specs.declared.finding.Reached.{Reached}
 use Rattle.directories.specs.declared.finding.Reached.the-variants.{At, Stopped}
 use Rattle.directories.specs.declared.unlinking.Verdict.{Verdict}
 use Rattle.directories.specs.declared.unlinking.Verdict.the-variants as verdict
-use Rattle.directories.specs.Reaches.{reachFrom, reachPath}
+use Rattle.directories.specs.Reaches.{reachParts, reachPath}
 use Rattle.directories.specs.Verdicts.{verdict, Leaves, unlinkAt}
 use Rattle.directories.proofs.unlinking.Verdict as VerdictType
 use Rattle.directories.proofs.ReachedPlace.{path-inside}
-use Rattle.directories.proofs.Reaching.{walkShown, reach-shows}
+use Rattle.directories.proofs.Reaching.{walkShown}
+use Rattle.directories.proofs.ReachedDirectory.{parts-show}
 use Rattle.directories.proofs.Judging.{stepBy, verdict-step, verdict-empty}
 
 -- a step of the names, lifted to a volume
@@ -107,8 +108,8 @@ module _ (start : ℕ) (path : List ℕ) (want : Expected) (opens : ℕ) (l : Li
   stepOf (At n p) = unlinkAt p want opens (shown l .names)
   stepOf (Stopped x) = remain x (shown l .names)
 
-  parts-step : (q : List ℕ) (qs : List (List ℕ)) → stepOf (reachFrom start (shown l .names) (q ∷ qs)) ≡ unlinkReached want opens (shown l .names) (walkFrom start (shown l .names) (q ∷ qs))
-  parts-step q qs = go (reachFrom start (shown l .names) (q ∷ qs)) ∙ ap (unlinkReached want opens (shown l .names)) (sym (reach-shows start (shown l .names) (g .named .nodeOrder) (g .named .entryOrder) (q ∷ qs)))
+  parts-step : (q : List ℕ) (qs : List (List ℕ)) → stepOf (reachParts start path (shown l .names) (q ∷ qs)) ≡ unlinkReached want opens (shown l .names) (walkPath start path (shown l .names) (q ∷ qs))
+  parts-step q qs = go (reachParts start path (shown l .names) (q ∷ qs)) ∙ ap (unlinkReached want opens (shown l .names)) (sym (parts-show start path (shown l .names) (g .named) (q ∷ qs)))
     where
       go : (r : Reached) → stepOf r ≡ unlinkReached want opens (shown l .names) (walkShown (shown l .names .entries) (length (q ∷ qs)) r)
       go (At n p) = unfold unlinkReached walkShown unlinkAt in refl
@@ -118,8 +119,8 @@ module _ (start : ℕ) (path : List ℕ) (want : Expected) (opens : ℕ) (l : Li
   unfolding unlink reachPath onCutting pick
   path-steps = go (cutPath path)
     where
-      go : (c : Cutting) → stepOf (onCutting Stopped (λ ps. pick (ltb (length ps) 1) (Stopped PathNotPermitted) (reachFrom start (shown l .names) ps)) c)
-          ≡ onCutting (λ e. remain e (shown l .names)) (λ ps. pick (eqb (length ps) 0) (remain PathNotPermitted (shown l .names)) (unlinkReached want opens (shown l .names) (walkFrom start (shown l .names) ps))) c
+      go : (c : Cutting) → stepOf (onCutting Stopped (λ ps. pick (ltb (length ps) 1) (Stopped PathNotPermitted) (reachParts start path (shown l .names) ps)) c)
+          ≡ onCutting (λ e. remain e (shown l .names)) (λ ps. pick (eqb (length ps) 0) (remain PathNotPermitted (shown l .names)) (unlinkReached want opens (shown l .names) (walkPath start path (shown l .names) ps))) c
       go (parts []) = refl
       go (parts (q ∷ qs)) = rw (le-ltb (length (q ∷ qs)) 1 (omega arith), ne-eqb (length (q ∷ qs)) 0 (λ e. omega arith)) (parts-step q qs)
       go notPermitted = refl

@@ -10,10 +10,11 @@ use Rattle.types.specs.declared.Error.the-variants.{NoSuchEntry, PathNotPermitt
 use Rattle.paths.specs.Path.{cutPath}
 use Rattle.volume.specs.Rows.{Entry}
 use Rattle.volume.specs.Volume.{Names}
+use Rattle.volume.specs.Sound.{node}
 use Rattle.tables.specs.Tables.{entryAt, foundNode}
 use Rattle.tables.specs.declared.Found.{Found}
 use Rattle.tables.specs.declared.Found.the-variants as found
-use Rattle.names.specs.Walks.{onCutting}
+use Rattle.names.specs.Walks.{onCutting, meansDirectory, onPassing}
 use Rattle.directories.specs.declared.finding.Reached.{Reached}
 use Rattle.directories.specs.declared.finding.Reached.the-variants.{At, Stopped}
 use Rattle.directories.specs.Searches.{entryFound}
@@ -44,7 +45,16 @@ reachOf es start ps (found.At i) = reachAll es (At start 0) ps
 unfoldable pub reachFrom : ℕ → Names → List (List ℕ) → Reached
 reachFrom start a ps = reachOf (a .entries) start ps (foundNode start (a .nodes))
 
+-- to what passes as a directory
+unfoldable pub reachDirectory : Names → Reached → Reached
+reachDirectory a (Stopped e) = Stopped e
+reachDirectory a (At n p) = onPassing Stopped (At n p) (node n a)
+
+-- along the parts of a path
+unfoldable pub reachParts : ℕ → List ℕ → Names → List (List ℕ) → Reached
+reachParts start path a ps = pick (meansDirectory path ps) (reachDirectory a (reachFrom start a ps)) (reachFrom start a ps)
+
 -- along a path, which has to have at least so many parts
 unfoldable pub reachPath : ℕ → List ℕ → ℕ → Names → Reached
 reachPath start path least a =
-    onCutting Stopped (λ ps. pick (ltb (length ps) least) (Stopped PathNotPermitted) (reachFrom start a ps)) (cutPath path)
+    onCutting Stopped (λ ps. pick (ltb (length ps) least) (Stopped PathNotPermitted) (reachParts start path a ps)) (cutPath path)

@@ -4,6 +4,7 @@ use paths::Cut;
 use tables::Found;
 use types::Answer;
 use types::Error;
+use types::FileType;
 use volume::Layout;
 ghost use mathlib.Core.Path.{_≡_};
 ghost use Prim.Native.Nat.{_+_, _≤_, _<_};
@@ -15,8 +16,8 @@ ghost use Rattle.paths.specs.Shown.{BoundsFit, shownParts};
 ghost use Rattle.volume.specs.Volume.{shown};
 ghost use Rattle.volume.specs.Sound.{Named, nodeBefore, entryBefore};
 ghost use Rattle.tables.specs.Tables.{Ready};
-ghost use Rattle.names.specs.Walks.{findNode};
-ghost use Rattle.directories.specs.Reaches.{reach, reachFrom, reachPath};
+ghost use Rattle.names.specs.Walks.{passesAsDirectory, findNode};
+ghost use Rattle.directories.specs.Reaches.{reach, reachFrom, reachDirectory, reachPath};
 
 // The node that parts lead to, and the place of the entry that names it last (0 where there was no part); or why they lead nowhere.
 pub enum Reached {
@@ -92,6 +93,36 @@ fn reach_from(
     Reached::At(node, place)
 }
 
+// Whether a path that means a directory may lead to such a node. A symbolic link is not followed, so it passes.
+fn passes_as_directory(kind: FileType) -> bool
+    ensures { λ r. ⌜ r ≡ passesAsDirectory kind ⌝ }
+{
+    match kind {
+        FileType::Directory => true,
+        FileType::RegularFile => false,
+        FileType::SymbolicLink => true,
+    }
+}
+
+// What was reached, where it has to pass as a directory.
+fn as_directory(volume: &[u8], layout: Layout, reached: Reached) -> Reached
+    requires { ⌜ Ready (now volume) layout × Asc nodeBefore (shown (now volume) .names .nodes) ⌝ }
+    ensures { λ r. ⌜ r ≡ reachDirectory (shown (now (volume .entry)) .names) reached ⌝ }
+{
+    let Reached::At(node, _) = reached else {
+        return reached;
+    };
+    let Found::At(place) = tables::find_node(volume, layout, node) else {
+        return Reached::Stopped(Error::NoSuchEntry);
+    };
+    let row = tables::node_row(volume, layout, place);
+    let kind = row.kind;
+    if !passes_as_directory(kind) {
+        return Reached::Stopped(Error::NotDirectory);
+    }
+    reached
+}
+
 // Where a path leads from a start. It has to have at least so many parts.
 pub fn reach_path(volume: &[u8], layout: Layout, start: u64, path: &[u8], least: usize) -> Reached
     requires { ⌜ Ready (now volume) layout × Named (shown (now volume) .names) ⌝ }
@@ -100,15 +131,20 @@ pub fn reach_path(volume: &[u8], layout: Layout, start: u64, path: &[u8], least:
     let mut starts = [0u16; types::MOST_PARTS];
     let mut lengths = [0u16; types::MOST_PARTS];
     let cut = paths::get_path_parts(path, &mut starts, &mut lengths);
-    let count = match cut {
-        Cut::Parts(count, _) => count,
-        Cut::NotPermitted => return Reached::Stopped(Error::PathNotPermitted),
-        Cut::TooLong => return Reached::Stopped(Error::InvalidArgument),
-    };
-    if count < least {
-        return Reached::Stopped(Error::PathNotPermitted);
+    match cut {
+        Cut::Parts(count, must_be_dir) => {
+            if count < least {
+                return Reached::Stopped(Error::PathNotPermitted);
+            }
+            let reached = reach_from(volume, layout, start, path, &starts, &lengths, count);
+            if must_be_dir {
+                return as_directory(volume, layout, reached);
+            }
+            reached
+        }
+        Cut::NotPermitted => Reached::Stopped(Error::PathNotPermitted),
+        Cut::TooLong => Reached::Stopped(Error::InvalidArgument),
     }
-    reach_from(volume, layout, start, path, &starts, &lengths, count)
 }
 
 // The node that a path leads to from a start: the start itself, where there is no part.

@@ -5,8 +5,10 @@ pub mod Created
 pub mod Linked
 pub mod TwoRows
 pub mod EntryKeys
+pub mod PathWalks
 pub mod Unlinked
 pub mod UnlinkedNames
+pub mod FolderPaths
 pub mod Removed
 pub mod EntryLaws
 pub mod LookedThrough

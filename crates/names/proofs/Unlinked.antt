@@ -33,9 +33,10 @@ use Rattle.volume.specs.Sound.{node, naming, entriesOf, DirectoryThere, NodeThe
 use Rattle.volume.specs.Steps.{NamesStep, remain, turn}
 use Rattle.volume.proofs.Framed.{fits-nodes, fits-entries}
 use Rattle.tables.proofs.NodeRows.{node-is, node-each}
-use Rattle.names.specs.Walks.{onCutting, Walk, reached, stopped, walkFrom}
+use Rattle.names.specs.Walks.{onCutting, Walk, reached, stopped, walkFrom, walkPath}
 use Rattle.names.specs.Unlinking.{wantsFile, wantsDirectory, isEntry, without, unlinked, unlinkNode, unlinkReached, unlink}
 use Rattle.names.proofs.EntryKeys.{entry-by-key, naming-without, entriesOf-without, EndsWith, walk-from-ends}
+use Rattle.names.proofs.PathWalks.{path-reached}
 use Rattle.names.proofs.TwoRows.{Two, length-two, order-two, numbers-two, two-first, two-second, two-other, two-look, two-each, two-there, two-directory}
 use Rattle.tables.specs.OneRow.{sized, linked}
 
@@ -100,9 +101,11 @@ module _ (start : ℕ) (path : List ℕ) (a : Names) (g : Named a) where
           (says-both (says-directory (r .kind)) (says-ltb 0 (r .size)))
 
   -- what a walk reached
-  from-walk : (want : Expected) (opens : ℕ) (ps : List (List ℕ)) → cutPath path ≡ parts ps → (w : Walk) → walkFrom start a ps ≡ w → EndsWith (InPlace a) w → Unlinks start path a (unlinkReached want opens a w)
+  from-walk : (want : Expected) (opens : ℕ) (ps : List (List ℕ)) → cutPath path ≡ parts ps → (w : Walk) → walkPath start path a ps ≡ w → EndsWith (InPlace a) (walkFrom start a ps) → Unlinks start path a (unlinkReached want opens a w)
   unfolding unlinkReached
-  from-walk want opens ps c (reached n (some e)) q h = from-entry want opens e (record { names = ps; cut = c; found = n; walk = q }) h
+  from-walk want opens ps c (reached n (some e)) q h =
+      let k = path-reached start path a ps q in
+      from-entry want opens e (record { names = ps; cut = c; found = n; walk = k }) (rw k at h)
   from-walk want opens ps c (reached n none) q h = refuses PathNotPermitted
   from-walk want opens ps c (stopped e) q h = refuses e
 
@@ -111,11 +114,11 @@ pub unlink-cases : (start : ℕ) (path : List ℕ) (want : Expected) (opens : �
 unfolding unlink onCutting pick
 unlink-cases start path want opens a g = go (cutPath path) refl
   where
-    from-parts : (ps : List (List ℕ)) → cutPath path ≡ parts ps → (b : Bool) → Unlinks start path a (pick b (remain PathNotPermitted a) (unlinkReached want opens a (walkFrom start a ps)))
+    from-parts : (ps : List (List ℕ)) → cutPath path ≡ parts ps → (b : Bool) → Unlinks start path a (pick b (remain PathNotPermitted a) (unlinkReached want opens a (walkPath start path a ps)))
     from-parts ps c true = refuses PathNotPermitted
-    from-parts ps c false = from-walk start path a g want opens ps c (walkFrom start a ps) refl (walk-from-ends (InPlace a) start a ps (entry-by-key (a .entries) (g .entryOrder)))
+    from-parts ps c false = from-walk start path a g want opens ps c (walkPath start path a ps) refl (walk-from-ends (InPlace a) start a ps (entry-by-key (a .entries) (g .entryOrder)))
 
-    go : (c : Cutting) → cutPath path ≡ c → Unlinks start path a (onCutting (λ e. remain e a) (λ ps. pick (eqb (length ps) 0) (remain PathNotPermitted a) (unlinkReached want opens a (walkFrom start a ps))) c)
+    go : (c : Cutting) → cutPath path ≡ c → Unlinks start path a (onCutting (λ e. remain e a) (λ ps. pick (eqb (length ps) 0) (remain PathNotPermitted a) (unlinkReached want opens a (walkPath start path a ps))) c)
     go (parts ps) q = from-parts ps q (eqb (length ps) 0)
     go notPermitted q = refuses PathNotPermitted
     go tooLong q = refuses InvalidArgument

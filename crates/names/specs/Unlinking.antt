@@ -19,7 +19,7 @@ use Rattle.volume.specs.Rows.{Entry}
 use Rattle.volume.specs.Volume.{Names, withEntries}
 use Rattle.volume.specs.Sound.{node}
 use Rattle.volume.specs.Steps.{NamesStep, remain, turn, withNode}
-use Rattle.names.specs.Walks.{onCutting, Walk, reached, stopped, walkFrom}
+use Rattle.names.specs.Walks.{onCutting, Walk, reached, stopped, walkPath}
 use Rattle.tables.specs.OneRow.{sized, linked}
 
 abbrev pub wantsFile : Expected → Bool
@@ -63,5 +63,5 @@ unlinkReached want opens a (stopped e) = remain e a
 unfoldable pub unlink : ℕ → List ℕ → Expected → ℕ → Names → NamesStep
 unlink start path want opens a =
     onCutting (λ e. remain e a)
-    (λ ps. pick (eqb (length ps) 0) (remain PathNotPermitted a) (unlinkReached want opens a (walkFrom start a ps)))
+    (λ ps. pick (eqb (length ps) 0) (remain PathNotPermitted a) (unlinkReached want opens a (walkPath start path a ps)))
     (cutPath path)

@@ -1,11 +1,11 @@
--- What the paths of the scope's boundary rows P8 to P11 are cut into, computed; that `a` and `b` are names, and `.` is none.
+-- What the paths of the scope's boundary rows P8 to P11 are cut into, computed; which of them end open; that `a` and `b` are names, and `.` is none.
 -- Assumes nothing.
 use mathlib.Core.Path.{_≡_, refl}
 use mathlib.Core.Bool.{true, false}
 use mathlib.Core.List.{List, [], _∷_}
 use Prim.Native.Nat.{ℕ}
 use Rattle.words.specs.Rules.{pick, both, either, same}
-use Rattle.paths.specs.Path.{dot, parts, notPermitted, cons, split, dropped, upward, walk, cutPath, noSlash, nameAllowed}
+use Rattle.paths.specs.Path.{dot, parts, notPermitted, cons, split, dropped, upward, walk, cutPath, endsOpen, noSlash, nameAllowed}
 use Rattle.paths.specs.Boundary.{byteA, byteB, path8, path9, path10, path11}
 use Rattle.paths.specs.Bounds.{walkBounds, cutBounds}
 use Rattle.paths.specs.Shown.{cutNumber}
@@ -34,6 +34,20 @@ p10 = refl
 pub p11 : (cutPath path11 ≡ parts (path11 ∷ [])) × (nameAllowed path11 ≡ true)
 unfolding cutPath walk split cons dropped upward either both same pick nameAllowed noSlash
 p11 = (refl, refl)
+
+-- ---- how they end
+
+pub shut9 : endsOpen path9 ≡ false
+unfolding endsOpen split cons dropped upward either both same pick
+shut9 = refl
+
+pub open10 : endsOpen path10 ≡ true
+unfolding endsOpen split cons dropped upward either both same pick
+open10 = refl
+
+pub shut11 : endsOpen path11 ≡ false
+unfolding endsOpen split cons dropped upward either both same pick
+shut11 = refl
 
 -- ---- the names
 

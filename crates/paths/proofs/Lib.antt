@@ -5,4 +5,5 @@ pub mod Walk
 pub mod Shown
 pub mod Bounds
 pub mod Parts
+pub mod Behind
 pub mod BoundaryRows

@@ -194,12 +194,14 @@ fn name_length(draw: u64) -> u64 {
     }
 }
 
+// Paths of two bytes end with a slash, as those that mean a directory do.
 fn path_length(draw: u64) -> u64 {
     let n = draw % 16;
     match n {
         0 => 0,
-        1..=11 => 1,
-        12..=14 => 3,
+        1..=7 => 1,
+        8..=12 => 2,
+        13..=14 => 3,
         _ => 5,
     }
 }

@@ -2,10 +2,11 @@
 -- to such a memory.
 -- Assumes nothing.
 use mathlib.Core.Path.{_≡_, refl, ap, _∙_}
-use mathlib.Core.Bool.{true}
+use mathlib.Core.Bool.{true, false}
 use mathlib.Core.List.{List, [], _∷_}
 use mathlib.Core.Option.{some}
-use Prim.Native.Nat.{ℕ, _-_, _^_, _≤_}
+use Prim.Native.Nat.{ℕ, _-_, _^_, _≤_, _<_}
+use native.Mathlib.Omega.{arith}
 use lib.ListN.{length}
 use borrow.Author.Tests.{lt-leb}
 use Rattle.words.specs.Bytes.{Bytes}
@@ -18,8 +19,8 @@ use Rattle.types.specs.declared.Error.the-variants.{FileTooLarge}
 use Rattle.types.specs.declared.FileType.the-variants.{RegularFile}
 use Rattle.types.specs.declared.NodeRecord.{NodeRecord}
 use Rattle.allocator.specs.Allocator.{free}
-use Rattle.paths.specs.Path.{parts, notPermitted, cutPath, nameAllowed}
-use Rattle.paths.proofs.BoundaryRows.{p8, p9, p10, p11, a-allowed, b-allowed}
+use Rattle.paths.specs.Path.{parts, notPermitted, cutPath, endsOpen, nameAllowed}
+use Rattle.paths.proofs.BoundaryRows.{p8, p9, p10, p11, shut9, open10, shut11, a-allowed, b-allowed}
 use Rattle.volume.specs.Kinds.{kindOf}
 use Rattle.volume.specs.Volume.{Volume, shown, atBytes}
 use Rattle.volume.specs.Framed.{Fits}
@@ -42,8 +43,9 @@ use Rattle.names.specs.Entries.{entryNamed, greatest, onEntry}
 use Rattle.names.specs.Entering as Entering
 use Rattle.names.specs.Entering.{onParentRow, onParent, whereNew, newNode, created, noRowRoom, onKind, withEntry}
 use Rattle.names.specs.Walks as Walks
-use Rattle.names.specs.Walks.{onCutting, walkFrom, nodeReached}
+use Rattle.names.specs.Walks.{onCutting, walkPath, nodeReached}
 use Rattle.names.proofs.Created.{create-kept, create-owned}
+use Rattle.names.proofs.PathWalks.{path-named, path-meant}
 use Rattle.lentilraft.specs.Door as Door
 use Rattle.lentilraft.specs.Door.{ifSound, door, doorInto}
 use Rattle.lentilraft.proofs.Kept.{door-sound, name-kept}
@@ -52,7 +54,7 @@ use Rattle.lentilraft.proofs.Refusal.{write-refusal}
 use Rattle.sequences.specs.Show.{show}
 use Rattle.sequences.specs.Calls.{Lent, newVolume, findNode, create}
 use Rattle.sequences.specs.Run.{told, filled, accepted, runAll}
-use Rattle.sequences.specs.Boundary.{looksUp, HasSize, ComesOut, Holds, nothing, boundaryTable}
+use Rattle.sequences.specs.Boundary.{looksUp, looksUpDirectory, HasSize, ComesOut, Holds, nothing, boundaryTable}
 use Rattle.sequences.proofs.Shown.{show-there}
 use Rattle.sequences.proofs.RawBytes.{RawBytes, door-bytes, fresh-bytes}
 use Rattle.sequences.proofs.BytesKept.{write-raw, resize-raw, create-raw}
@@ -109,14 +111,23 @@ shows-size : (n z : ℕ) (r : NodeRecord) {l : List ℕ} {v : Volume} → Memory
 shows-size n z r {l} {v} h e = rw (h .volume, show-there v n e) refl
 
 -- a path that is cut into parts
-looks-up : (start : ℕ) (path : List ℕ) (ps : List (List ℕ)) (l : List ℕ) → Sound l → cutPath path ≡ parts ps → Each (λ p. nameAllowed p ≡ true) ps → ComesOut l (findNode start path) (looksUp start ps)
+cut-does : (start : ℕ) (path : List ℕ) (ps : List (List ℕ)) (l : List ℕ) → Sound l → cutPath path ≡ parts ps → Door.findNode start path l ≡ nodeReached (walkPath start path (shown l .names) ps)
 unfolding Walks.findNode onCutting
-looks-up start path ps l h e allowed = (ap told (find-does start path l h ∙ ap (onCutting Refused (λ qs. nodeReached (walkFrom start (shown l .names) qs))) e), allowed)
+cut-does start path ps l h e = find-does start path l h ∙ ap (onCutting Refused (λ qs. nodeReached (walkPath start path (shown l .names) qs))) e
+
+-- it ends in a name
+looks-up : (start : ℕ) (path : List ℕ) (ps : List (List ℕ)) (l : List ℕ) → Sound l → cutPath path ≡ parts ps → endsOpen path ≡ false → Each (λ p. nameAllowed p ≡ true) ps → ComesOut l (findNode start path) (looksUp start ps)
+looks-up start path ps l h e shut allowed = (ap told (cut-does start path ps l h e ∙ ap nodeReached (path-named start path (shown l .names) ps shut)), allowed)
+
+-- it means a directory
+looks-up-directory : (start : ℕ) (path : List ℕ) (ps : List (List ℕ)) (l : List ℕ) → Sound l → cutPath path ≡ parts ps → endsOpen path ≡ true → 0 < length ps → Each (λ p. nameAllowed p ≡ true) ps
+    → ComesOut l (findNode start path) (looksUpDirectory start ps)
+looks-up-directory start path ps l h e opened left allowed = (ap told (cut-does start path ps l h e ∙ ap nodeReached (path-meant start path (shown l .names) ps opened left)), allowed)
 
 -- one that is not permitted
 not-found : (start : ℕ) (path l : List ℕ) → Sound l → cutPath path ≡ notPermitted → number (Door.findNode start path l) ≡ 8
 unfolding Walks.findNode onCutting
-not-found start path l h e = ap number (find-does start path l h ∙ ap (onCutting Refused (λ qs. nodeReached (walkFrom start (shown l .names) qs))) e)
+not-found start path l h e = ap number (find-does start path l h ∙ ap (onCutting Refused (λ qs. nodeReached (walkPath start path (shown l .names) qs))) e)
 
 -- ---- the table
 
@@ -153,9 +164,9 @@ boundary l b h n r s three one long short start =
     also (ap told (w6 .answer ∙ r6 .0) also ap (λ u. u .store .chunks) (w6 .after .volume) ∙ r6 .1 also tt)
     also (ap told (w7 .answer ∙ r7 .0) also ap (λ u. u .store .chunks) (w7 .after .volume) ∙ r7 .1 also tt)
     also ((not-found start _ l h p8, refl) also tt)
-    also (looks-up start _ _ l h p9 (b-allowed also tt) also tt)
-    also (looks-up start _ _ l h p10 (a-allowed also b-allowed also tt) also tt)
-    also (looks-up start _ _ l h (p11 .0) (p11 .1 also tt) also tt)
+    also (looks-up start _ _ l h p9 shut9 (b-allowed also tt) also tt)
+    also (looks-up-directory start _ _ l h p10 open10 (omega arith) (a-allowed also b-allowed also tt) also tt)
+    also (looks-up start _ _ l h (p11 .0) shut11 (p11 .1 also tt) also tt)
     also tt
 
 -- ---- the start is there

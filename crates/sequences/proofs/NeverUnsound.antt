@@ -27,7 +27,7 @@ use Rattle.volume.specs.declared.kinds.Kind.{Kind}
 use Rattle.volume.specs.declared.kinds.Kind.the-variants.{Known, Unknown}
 use Rattle.volume.specs.Rows.{Entry}
 use Rattle.volume.specs.Volume.{Names, Volume, shown}
-use Rattle.volume.specs.Sound.{Sound}
+use Rattle.volume.specs.Sound.{node, Sound}
 use Rattle.volume.specs.Steps.{Step, NamesStep}
 use Rattle.volume.specs.Fresh as Fresh
 use Rattle.volume.specs.Files.{onRow, onFile}
@@ -37,7 +37,7 @@ use Rattle.files.specs.Write as Write
 use Rattle.files.specs.Resize as Resize
 use Rattle.files.specs.Limits as Limits
 use Rattle.names.specs.Entries.{onEntry}
-use Rattle.names.specs.Walks.{onCutting, Walk, reached, stopped, walkParts, onStart, walkFrom, nodeReached}
+use Rattle.names.specs.Walks.{onCutting, Walk, reached, stopped, walkParts, onStart, walkFrom, onPassing, asDirectory, walkPath, nodeReached}
 use Rattle.names.specs.Walks as Walks
 use Rattle.names.specs.Listing.{Listed, listedNumber, onDirectory}
 use Rattle.names.specs.Listing as Listing
@@ -176,9 +176,23 @@ from-fine : (start : ℕ) (a : Names) (ps : List (List ℕ)) → FineWalk (walkF
 unfolding walkFrom nodeReached
 from-fine start a ps = of-start FineWalk _ refl (walk-fine (a .entries) ps start none)
 
+passing-fine : (w : Walk) (o : Option NodeRecord) → FineWalk w → FineWalk (onPassing stopped w o)
+unfolding onPassing nodeReached
+passing-fine w none f = refl
+passing-fine w (some r) f = of-pick FineWalk _ f refl
+
+judged-fine : (a : Names) (w : Walk) → FineWalk w → FineWalk (asDirectory a w)
+unfolding asDirectory
+judged-fine a (reached n last) f = passing-fine (reached n last) (node n a) f
+judged-fine a (stopped e) f = f
+
+path-fine : (start : ℕ) (path : List ℕ) (a : Names) (ps : List (List ℕ)) → FineWalk (walkPath start path a ps)
+unfolding walkPath
+path-fine start path a ps = of-pick FineWalk _ (judged-fine a (walkFrom start a ps) (from-fine start a ps)) (from-fine start a ps)
+
 find-fine : (start : ℕ) (path : List ℕ) (a : Names) → Fine (Walks.findNode start path a)
 unfolding Walks.findNode
-find-fine start path a = of-cutting Fine (λ e q. q) _ (λ ps. from-fine start a ps)
+find-fine start path a = of-cutting Fine (λ e q. q) _ (λ ps. path-fine start path a ps)
 
 next-fine : (d from : ℕ) (a : Names) → FineListed (Listing.nextEntry d from a)
 unfolding Listing.nextEntry
@@ -218,7 +232,7 @@ reached-fine want opens a (stopped e) q = q
 
 unlink-fine : (start : ℕ) (path : List ℕ) (want : Expected) (opens : ℕ) (a : Names) → FineNames (Unlinking.unlink start path want opens a)
 unfolding Unlinking.unlink
-unlink-fine start path want opens a = of-cutting FineNames (λ e q. q) _ (λ ps. of-pick FineNames _ refl (reached-fine want opens a _ (from-fine start a ps)))
+unlink-fine start path want opens a = of-cutting FineNames (λ e q. q) _ (λ ps. of-pick FineNames _ refl (reached-fine want opens a _ (path-fine start path a ps)))
 
 remove-fine : (n : ℕ) (v : Volume) (o : Option NodeRecord) → FineStep (Removing.removeRow n v o)
 unfolding Removing.removeRow

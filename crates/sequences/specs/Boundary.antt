@@ -16,7 +16,7 @@ use Rattle.paths.specs.Path.{nameAllowed}
 use Rattle.allocator.specs.Allocator.{free}
 use Rattle.volume.specs.declared.ChunkRow.{ChunkRow}
 use Rattle.volume.specs.Volume.{shown}
-use Rattle.names.specs.Walks.{walkFrom, nodeReached}
+use Rattle.names.specs.Walks.{walkFrom, asDirectory, nodeReached}
 use Rattle.files.specs.Boundary.{row}
 use Rattle.sequences.specs.Fs.{NodeSeen}
 use Rattle.sequences.specs.Show.{show}
@@ -40,6 +40,8 @@ pub data Comes : Type 0 where
   sizeIs : ℕ → ℕ → Comes
   -- from a start these parts are looked up, one by one, and nothing else; each is a name
   looksUp : ℕ → List (List ℕ) → Comes
+  -- the same, and what they lead to has to pass as a directory
+  looksUpDirectory : ℕ → List (List ℕ) → Comes
 
 abbrev pub HasSize : ℕ → Option NodeSeen → Type 0
 HasSize z none = ⊥
@@ -53,6 +55,8 @@ ComesOut l c (rowsAre cs) = shown (run c l .memory) .store .chunks ≡ cs
 ComesOut l c (freeAre ps) = free (shown (run c l .memory) .store .allocator) ≡ ps
 ComesOut l c (sizeIs n z) = HasSize z (show (shown (run c l .memory)) .at n)
 ComesOut l c (looksUp start ps) = (run c l .reply ≡ told (nodeReached (walkFrom start (shown l .names) ps))) × Each (λ p. nameAllowed p ≡ true) ps
+ComesOut l c (looksUpDirectory start ps) =
+    (run c l .reply ≡ told (nodeReached (asDirectory (shown l .names) (walkFrom start (shown l .names) ps)))) × Each (λ p. nameAllowed p ≡ true) ps
 
 -- ---- the table
 
@@ -92,7 +96,7 @@ boundaryTable n three one start =
     -- P9: `a/../b`: only `b` is looked up
     ∷ record { before = []; call = findNode start path9; comes = looksUp start ((byteB ∷ []) ∷ []) ∷ [] }
     -- P10: `./a//b/`: parts a, b
-    ∷ record { before = []; call = findNode start path10; comes = looksUp start ((byteA ∷ []) ∷ (byteB ∷ []) ∷ []) ∷ [] }
+    ∷ record { before = []; call = findNode start path10; comes = looksUpDirectory start ((byteA ∷ []) ∷ (byteB ∷ []) ∷ []) ∷ [] }
     -- P11: `...`: a name
     ∷ record { before = []; call = findNode start path11; comes = looksUp start (path11 ∷ []) ∷ [] }
     ∷ []

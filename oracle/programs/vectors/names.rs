@@ -179,16 +179,14 @@ fn marks(path: &str, answer: &Answer) -> Vec<&'static str> {
     let pieces: Vec<&str> = path.split('/').collect();
     let inner = &pieces[..pieces.len() - 1];
     let long = |piece: &&str| piece.len() > MAX_FILE_NAME;
+    let no_part = scope::path_parts(path.as_bytes()).is_ok_and(|parts| parts.is_empty());
     let has = [
         ("one .", pieces.contains(&".")),
         ("one ..", pieces.contains(&"..")),
         ("one empty part", inner.contains(&"")),
-        ("a final /", path.ends_with('/')),
         ("a part above 255 bytes", pieces.iter().any(long)),
-        (
-            "no part",
-            scope::path_parts(path.as_bytes()).is_ok_and(|parts| parts.is_empty()),
-        ),
+        ("no part", no_part),
+        ("no part and a final /", no_part && path.ends_with('/')),
         ("a missing name", answer.number == scope::NO_SUCH_ENTRY),
         ("4,096 bytes", path.len() == scope::MAX_PATH),
     ];
@@ -334,7 +332,8 @@ impl Run {
         self.fill_up(tally);
     }
 
-    /// Long names that differ in a byte, and unlinks that have more than one reason to be refused.
+    /// Long names that differ in a byte, unlinks that have more than one reason to be refused, and
+    /// paths to a file with pieces in them that mean nothing.
     fn one_folder(&self) -> Vec<Call> {
         let folder = self.volume.next_node();
         let (file, symbolic_link) = (folder + 1, folder + 2);
@@ -351,12 +350,13 @@ impl Run {
         }
         calls.extend([
             link(folder, "again", file),
+            find(0, "./folder//../folder/again"),
             unlink("folder", Some(false), 1),
             unlink("folder", None, 1),
             unlink(&inside(&long("n")), Some(true), 1),
             unlink(&inside(&long("n")), None, 1),
             unlink(&inside("again"), None, 1),
-            unlink(&inside("again"), Some(false), 0),
+            unlink(&inside(".//x/../again"), Some(false), 0),
             link(folder, "back", file),
             unlink(&inside(&long("m")), Some(false), 0),
             unlink(&inside(&long("")), Some(true), 0),
@@ -733,7 +733,8 @@ impl Run {
         self.joined(generator, parts)
     }
 
-    /// The parts with what means nothing between them, and sometimes a way out.
+    /// The parts with what means nothing between them, and sometimes a way out. The last part ends
+    /// the path, since another end would mean a directory.
     fn joined(&self, generator: &mut Generator, parts: Vec<String>) -> String {
         let mut path = String::new();
         match generator.below(40) {
@@ -742,23 +743,36 @@ impl Run {
             2 => path += "a/../../",
             _ => {}
         }
-        for part in parts {
+        for part in &parts {
             if !path.is_empty() && !path.ends_with('/') {
                 path += "/";
             }
             while generator.once_in(4) {
                 path += &self.nothing(generator, path.is_empty());
             }
-            path += &part;
+            path += part;
         }
-        if !path.is_empty() && generator.once_in(3) {
-            path += "/";
-            path += generator.one_of(&["", "", "", "/", ".", "./", "..", "../"]);
-        }
+        path += &match parts.last() {
+            Some(last) if generator.once_in(4) => up_and_down(generator, last),
+            None if generator.once_in(2) => self.no_part(generator, path.is_empty()),
+            _ => String::new(),
+        };
         if generator.once_in(120) {
             path = padded(path);
         }
         path
+    }
+
+    /// Pieces that lead nowhere, with a slash behind the last or without.
+    fn no_part(&self, generator: &mut Generator, begins: bool) -> String {
+        let mut pieces = self.nothing(generator, begins);
+        while generator.once_in(3) {
+            pieces += &self.nothing(generator, false);
+        }
+        if generator.once_in(2) {
+            pieces.pop();
+        }
+        pieces
     }
 
     /// Pieces that lead nowhere, with a slash behind each. No empty one begins a path.
@@ -819,8 +833,8 @@ fn chosen_paths() -> Vec<String> {
         "n".repeat(MAX_FILE_NAME + 1) + "/..",
     ];
     for path in [
-        "", ".", "..", "./", "/", "a", "a/", "a//", "a/.", "a/..", "a/../..", "a/../b", "./a//b/",
-        "...",
+        "", ".", "..", "./", "/", "a", "./a", ".//a", "a/../", "a/..", "a/../..", "a/../b",
+        "./a//b", "...",
     ] {
         paths.push(path.to_string());
     }
@@ -862,10 +876,14 @@ fn too_long_name(generator: &mut Generator) -> String {
     }
 }
 
-/// As long as a path may be, and sometimes a byte longer.
-fn padded(mut path: String) -> String {
-    while path.len() + 2 <= scope::MAX_PATH {
-        path += "/.";
-    }
-    path + "/"
+/// Behind a last part: a way up, with what means nothing in it, and down again.
+fn up_and_down(generator: &mut Generator, last: &str) -> String {
+    let up = generator.one_of(&["/../", "//../", "/./../", "/..//", "/.././"]);
+    up.to_string() + last
+}
+
+/// As long as a path may be, and sometimes a byte longer. What is put in front means nothing.
+fn padded(path: String) -> String {
+    let left = scope::MAX_PATH.saturating_sub(path.len());
+    "./".repeat(left / 2) + "/" + &path
 }

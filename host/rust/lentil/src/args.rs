@@ -268,8 +268,9 @@ usage: lentil COMMAND VOLUME ..
 
 const BACK: &str = "
 VOLUME is a file of the host. PATH is a path on the volume: it starts at the root, without a
-leading slash. '-' as FILE is standard input or output. Sizes and offsets are bytes; k, M and G
-behind them mean powers of 1,024. '--' ends the options.
+leading slash. With a slash at its end it means a folder, and leads to no file. '-' as FILE is
+standard input or output. Sizes and offsets are bytes; k, M and G behind them mean powers of 1,024.
+'--' ends the options.
 
 A command that changes a volume locks it, works in memory, and puts the changed volume in the place
 of the old one at the end, in one step. If it is refused or killed, the old one is there as it was.

@@ -2,6 +2,7 @@
 
 use lentilraft::{Error, Expected, Info, Kind, Node, Result, Rows, ROOT};
 
+use crate::failure::{About, Failure, Outcome};
 use crate::progress::Progress;
 use crate::store::Volume;
 
@@ -67,7 +68,7 @@ pub fn joined(path: &[u8], name: &[u8]) -> Vec<u8> {
     }
 }
 
-/// A path's last part, and what stands before it. A slash at the end means nothing.
+/// A path's last part, and what stands before it. Slashes behind that part belong to neither.
 pub fn split(path: &[u8]) -> (&[u8], &[u8]) {
     let end = path
         .iter()
@@ -80,45 +81,73 @@ pub fn split(path: &[u8]) -> (&[u8], &[u8]) {
     (&path[..start], &path[start..end])
 }
 
-/// Makes a node of a kind at a path.
+/// Whether a path means a directory, by its last piece: that is empty, `.` or `..`.
+fn means_directory(path: &[u8]) -> bool {
+    let last = path.rsplit(|byte| *byte == b'/').next();
+    matches!(last.unwrap_or_default(), b"" | b"." | b"..")
+}
+
+/// Makes a directory at a path, which may end with slashes.
 ///
-/// The whole path is looked up first: what the store refuses in it is refused here.
-pub fn make(volume: &mut Volume, path: &[u8], kind: Kind) -> Result<Node> {
-    absent(volume.find(ROOT, path))?;
-    let (front, name) = split(path);
-    let parent = volume.find(ROOT, front)?;
-    volume.create(parent, name, kind)
-}
-
-/// Names a node once more.
-pub fn name(volume: &mut Volume, path: &[u8], node: Node) -> Result<()> {
-    absent(volume.find(ROOT, path))?;
-    let (front, name) = split(path);
-    let parent = volume.find(ROOT, front)?;
-    volume.link(parent, name, node)
-}
-
-/// Lets pass whether there is something at a path; that is for the call that makes it to judge.
-fn absent(found: Result<Node>) -> Result<()> {
-    match found {
-        Ok(_) | Err(Error::NoSuchEntry) => Ok(()),
-        Err(error) => Err(error),
+/// The whole path is looked up first: what the store refuses in it is refused here. Whether there
+/// is something, a file before a slash too, is for the call that makes the directory to judge.
+pub fn make_directory(volume: &mut Volume, path: &[u8]) -> Result<Node> {
+    match volume.find(ROOT, path) {
+        Ok(_) | Err(Error::NoSuchEntry | Error::NotDirectory) => (),
+        Err(error) => return Err(error),
     }
+    let (parent, name) = new_place(volume, path)?;
+    volume.create(parent, name, Kind::Directory)
+}
+
+/// Makes a file at a path.
+pub fn make_file(volume: &mut Volume, path: &[u8]) -> Outcome<Node> {
+    demand_file_path(volume, path)?;
+    let (parent, name) = new_place(volume, path).about(path)?;
+    volume.create(parent, name, Kind::File).about(path)
+}
+
+/// Names a file once more.
+pub fn name_file(volume: &mut Volume, path: &[u8], node: Node) -> Outcome<()> {
+    demand_file_path(volume, path)?;
+    let (parent, name) = new_place(volume, path).about(path)?;
+    volume.link(parent, name, node).about(path)
+}
+
+/// Refuses a path that the store refuses, and one that means a directory where there is none: a
+/// file made there would not be found by it. Whether there is something is for the call that names
+/// the file to judge.
+fn demand_file_path(volume: &Volume, path: &[u8]) -> Outcome<()> {
+    match volume.find(ROOT, path) {
+        Err(Error::NoSuchEntry) if means_directory(path) => Err(Failure::declined(
+            path,
+            "no such folder, and a file's path ends with its name",
+        )),
+        Ok(_) | Err(Error::NoSuchEntry) => Ok(()),
+        Err(error) => Err(error).about(path),
+    }
+}
+
+/// The directory that something is to be made in at a path, and its name there.
+fn new_place<'a>(volume: &Volume, path: &'a [u8]) -> Result<(Node, &'a [u8])> {
+    let (front, name) = split(path);
+    Ok((volume.find(ROOT, front)?, name))
 }
 
 /// The directory at a path, made with those before it if need be.
 pub fn make_directories(volume: &mut Volume, path: &[u8]) -> Result<Node> {
     let ends = (1..path.len()).filter(|end| path[*end] == b'/');
     for end in ends.collect::<Vec<_>>() {
-        make_directory(volume, &path[..end])?;
+        directory_at(volume, &path[..end])?;
     }
-    make_directory(volume, path)
+    directory_at(volume, path)
 }
 
-fn make_directory(volume: &mut Volume, path: &[u8]) -> Result<Node> {
+/// The directory at a path, a new one if there is none.
+fn directory_at(volume: &mut Volume, path: &[u8]) -> Result<Node> {
     match volume.find(ROOT, path) {
         Ok(node) if volume.node(node)?.kind == Kind::Directory => Ok(node),
-        _ => make(volume, path, Kind::Directory),
+        _ => make_directory(volume, path),
     }
 }
 
@@ -155,6 +184,18 @@ mod tests {
                 "{}",
                 path
             );
+        }
+    }
+
+    #[test]
+    fn a_path_means_a_directory_by_its_last_piece() {
+        for path in [
+            "a/", "a//", "a/.", "a/./", "a/..", "a/b/..", ".", "..", "/", "",
+        ] {
+            assert!(means_directory(path.as_bytes()), "{}", path);
+        }
+        for path in ["a", "a/b", "./a", "../a", "a/...", "a/.b", "a/b.", "a/ "] {
+            assert!(!means_directory(path.as_bytes()), "{}", path);
         }
     }
 }

@@ -251,6 +251,60 @@ fn names_are_made_listed_and_taken_away() {
     );
 }
 
+#[test]
+fn a_path_that_means_a_folder_leads_to_one() {
+    let place = Place::with_volume("folder_slash");
+    place.run(["mkdir", "v", "d/"]).done();
+    place.run(["mkdir", "v", "d/e//"]).done();
+    place.run(["mkdir", "-p", "v", "x/y/."]).done();
+    place.feed(&["put", "v", "d//e/f"], b"f").done();
+    for path in ["d/e/", "d/e//", "d/e/.", "d/e/x/.."] {
+        assert_eq!(place.run(["ls", "v", path]).text(), "f\n");
+        assert_eq!(place.run(["ls", "-l", "v", path]).text(), "- 1 1 - f\n");
+        let tree = format!("{}\n`-- f\n", path);
+        assert_eq!(place.run(["tree", "v", path]).text(), tree);
+        let map = place.run(["map", "v", path]).text();
+        assert!(map.starts_with("f  #"), "{}", map);
+        place
+            .run(["search", "v", path, "f"])
+            .ended(0, "found: node 5, index 1, looked at 1\n");
+    }
+    place.run(["rm", "v", "x/y/"]).done();
+    place.run(["rm", "-r", "v", "d/"]).done();
+    assert_eq!(place.run(["tree", "v"]).text(), ".\n`-- x/\n");
+}
+
+#[test]
+fn folders_go_in_and_out_by_a_path_with_a_slash() {
+    let place = Place::with_volume("folders_slash");
+    fs::create_dir_all(place.path("in/deep")).unwrap();
+    place.make_file("in/deep/a", b"a");
+    for path in ["new/", "new/deeper/."] {
+        place.run(["import", "v", "in/", path]).done();
+        place.run(["export", "v", path, "out/"]).done();
+        assert_eq!(place.bytes("out/deep/a"), b"a");
+        fs::remove_dir_all(place.path("out")).unwrap();
+    }
+    let tree = ".\n`-- new/\n    |-- deep/\n    |   `-- a\n    `-- deeper/\n        `-- deep/\n            `-- a\n";
+    assert_eq!(place.run(["tree", "v"]).text(), tree);
+}
+
+#[test]
+fn a_symbolic_link_is_not_followed_by_a_slash() {
+    let place = Place::with_volume("link_slash");
+    fs::create_dir(place.path("in")).unwrap();
+    symlink("d", place.path("in/link")).unwrap();
+    place.run(["import", "v", "in"]).done();
+    place.run(["mkdir", "v", "d"]).done();
+    for path in ["link", "link/", "link/."] {
+        assert_eq!(place.run(["get", "v", path]).text(), "d");
+        let line = format!("l 1 1 - {} -> d\n", path);
+        assert_eq!(place.run(["ls", "-l", "v", path]).text(), line);
+    }
+    place.run(["rm", "v", "link/"]).done();
+    assert_eq!(place.run(["ls", "v"]).text(), "d\n");
+}
+
 /// A folder `d` with the files a to e, of which c was taken away: their indexes are 1, 2, 4 and 5.
 fn place_to_search(test: &str) -> Place {
     let place = Place::with_volume(test);

@@ -123,6 +123,65 @@ fn directories_and_files_in_each_others_place() {
 }
 
 #[test]
+fn a_path_that_means_a_folder_leads_to_no_file() {
+    let place = place("folder_path");
+    for path in ["g/", "g//", "g/.", "g/x/..", "./d/../g/x/../"] {
+        let message = format!("{}: not a directory (4)", path);
+        let refused = |words: &[&str]| place.refuses(words, &message);
+        for command in ["ls", "tree", "map", "get", "rm"] {
+            refused(&[command, "v", path]);
+        }
+        refused(&["ls", "-l", "v", path]);
+        refused(&["search", "v", path, "f"]);
+        refused(&["map", "v", path, "--svg", "picture"]);
+        refused(&["get", "v", path, "out"]);
+        refused(&["put", "v", path, "one"]);
+        refused(&["put", "v", path, "one", "--at", "5"]);
+        refused(&["cut", "v", path, "0"]);
+        refused(&["limit", "v", path, "9"]);
+        refused(&["limit", "v", path, "none"]);
+        refused(&["ln", "v", path, "h"]);
+        refused(&["ln", "v", "d/f", path]);
+        refused(&["rm", "-r", "v", path]);
+        refused(&["export", "v", path, "out"]);
+    }
+}
+
+#[test]
+fn a_path_that_means_a_folder_makes_no_file() {
+    let place = place("folder_path_new");
+    for path in ["x/", "x//", "x/.", "x/y/..", "d/x/", "x/y/", "g/x/"] {
+        let reason = "no such folder, and a file's path ends with its name";
+        let message = format!("{}: {}", path, reason);
+        place.refuses(&["put", "v", path, "one"], &message);
+        place.refuses(&["put", "v", path, "one", "--at", "5"], &message);
+        place.refuses(&["put", "v", path, "one", "--sparse"], &message);
+        place.refuses(&["ln", "v", "g", path], &message);
+    }
+    for path in ["d/", "d/.", "x/.."] {
+        let message = format!("{}: is a directory (3)", path);
+        place.refuses(&["put", "v", path, "one"], &message);
+    }
+    place.refuses(&["ln", "v", "g", "d/"], "d/: name exists (10)");
+}
+
+#[test]
+fn a_folder_is_not_made_where_a_file_is() {
+    let place = place("folder_on_file");
+    fs::create_dir(place.path("in")).unwrap();
+    for path in ["g", "g/", "g//"] {
+        let message = format!("{}: name exists (10)", path);
+        place.refuses(&["mkdir", "v", path], &message);
+        place.refuses(&["mkdir", "-p", "v", path], &message);
+        place.refuses(&["import", "v", "in", path], &message);
+    }
+    place.refuses(&["mkdir", "v", "g/."], "g/.: not a directory (4)");
+    place.refuses(&["mkdir", "v", "g/x/"], "g/x/: not a directory (4)");
+    place.refuses(&["mkdir", "v", "x/."], "x/.: no such node or entry (2)");
+    place.refuses(&["mkdir", "v", "x/y/"], "x/y/: no such node or entry (2)");
+}
+
+#[test]
 fn files_that_would_be_too_large() {
     let place = place("too_large");
     place.run(["limit", "v", "g", "10"]).done();
@@ -255,8 +314,6 @@ fn paths_and_names_that_are_not_allowed() {
 fn names_that_exist_folders_that_are_full_and_limits_too_high() {
     let place = place("others");
     place.refuses(&["mkdir", "v", "d"], "d: name exists (10)");
-    place.refuses(&["mkdir", "v", "g/"], "g/: name exists (10)");
-    place.refuses(&["mkdir", "-p", "v", "g"], "g: name exists (10)");
     place.refuses(&["mkdir", "-p", "v", "g/x"], "g/x: name exists (10)");
     place.refuses(&["ln", "v", "g", "d/f"], "d/f: name exists (10)");
     place.refuses(&["rm", "v", "d"], "d: directory not empty (11)");

@@ -16,6 +16,7 @@ fn the_program_says_what_it_does() {
     for command in COMMANDS {
         assert!(help.contains(&format!("\n  {} ", command)), "{}", command);
     }
+    assert!(help.contains("slash at its end it means a folder"));
     assert!(help.contains("\nexample:\n  lentil "));
     assert_eq!(place.run(["-h"]).text(), help);
     assert!(place.run(["--version"]).text().starts_with("lentil 0."));

@@ -14,7 +14,7 @@ pub enum Error {
     NoSuchEntry = 2,
     /// The node is a directory, and the call is not for directories.
     IsDirectory = 3,
-    /// The node is no directory, and the call is for directories only.
+    /// The node is no directory, and the call or the path is for directories only.
     NotDirectory = 4,
     /// The file would grow above its limit, or the limit lies below its size.
     FileTooLarge = 5,

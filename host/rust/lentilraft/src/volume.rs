@@ -67,11 +67,29 @@ impl<B: AsRef<[u8]>> Volume<B> {
     /// Parts stand between `/`; empty parts and `.` are dropped, and `..` drops the part before
     /// it. A path with no parts left leads to the start itself. Symbolic links are not followed.
     ///
+    /// Any other path that ends with `/`, `/.` or `/..` means a directory: it must lead to one, or
+    /// to a symbolic link.
+    ///
     /// # Errors
     ///
     /// `UnsoundMemory`. `InvalidArgument`: the path has more than 4,096 bytes. `PathNotPermitted`:
     /// a leading `/`, or a `..` with no part before it. `NoSuchEntry`: no such start. Then part by
     /// part, `BadName`: more than 255 bytes; or `NoSuchEntry`: no entry of that name there.
+    /// `NotDirectory`: the path means a directory, and leads to a file.
+    ///
+    /// ```
+    /// use lentilraft::{ChunkSize, Error, Kind, Rooms, Volume, ROOT};
+    ///
+    /// # let rooms = Rooms { nodes: 4, entries: 4, chunks: 4 };
+    /// # let memory = vec![0; rooms.least_length() as usize];
+    /// # let mut volume = Volume::new(memory, rooms, ChunkSize::K4)?;
+    /// let traces = volume.create(ROOT, b"traces", Kind::Directory)?;
+    /// let file = volume.create(traces, b"hood-7", Kind::File)?;
+    /// assert_eq!(volume.find(ROOT, b"traces/hood-7"), Ok(file));
+    /// assert_eq!(volume.find(ROOT, b"traces/"), Ok(traces));
+    /// assert_eq!(volume.find(ROOT, b"traces/hood-7/"), Err(Error::NotDirectory));
+    /// # Ok::<(), Error>(())
+    /// ```
     pub fn find(&self, start: Node, path: &[u8]) -> Result<Node> {
         ffi::find_node(self.bytes(), start.0, path).map(Node)
     }
@@ -315,9 +333,10 @@ impl<B: AsRef<[u8]> + AsMut<[u8]>> Volume<B> {
     ///
     /// # Errors
     ///
-    /// `UnsoundMemory`. Those of [`find`](Volume::find); `PathNotPermitted` also for a path with no
-    /// parts. `IsDirectory`: a file was expected. `DirectoryNotEmpty`. `NotDirectory`: a directory
-    /// was expected. `Busy`: it is open, and this is its last name.
+    /// `UnsoundMemory`. Those of [`find`](Volume::find), with `NotDirectory` for a path that means
+    /// a directory and leads to a file; `PathNotPermitted` also for a path with no parts.
+    /// `IsDirectory`: a file was expected. `DirectoryNotEmpty`. `NotDirectory`: a directory was
+    /// expected. `Busy`: it is open, and this is its last name.
     pub fn unlink(
         &mut self,
         start: Node,

@@ -1,58 +1,52 @@
 use borrow.Author.Needs.{needs}
 use Rattle.directories.proofs.finding.reach_path.Statement.{statement}
 use Rattle.directories.proofs.finding.reach_path.Tie as tie
-use Rattle.directories.proofs.finding.reach_path.Reads as reads
-use Rattle.directories.proofs.finding.reach_path.Lts as lts
-use Rattle.directories.proofs.finding.reach_from.Reads as reach-from-reads
-use Rattle.paths.proofs.get_path_parts.Reads as get-path-parts-reads
 use denote.Ref.{now}
 use mathlib.Core.Path.{refl}
 use Prim.Native.Nat.{ℕ}
 use lib.ListN.{replicate}
 use Rattle.paths.proofs.Bounds.{cut-told}
 use Rattle.volume.specs.Volume.{shown}
-use Rattle.directories.proofs.PathSteps.{path-barred, path-long, path-few, path-leads}
+use Rattle.directories.proofs.PathSteps.{path-barred, path-long, path-few, path-anywhere, path-judged}
 
--- src/finding.rt:103:9
 get-path-parts-requires : tie.Need-get-path-parts-requires
 get-path-parts-requires c κs = search needs
 
--- src/finding.rt:105:20
 enum-known-cut : tie.Need-enum-known-cut
 enum-known-cut c = search needs
 
--- src/finding.rt:106:54
+returns : tie.Need-returns
+returns c =
+    path-few (c .before .before .before .before .before .before .before .before .before .args .start) (now (c .before .before .before .before .before .before .before .before .before .args .path)) (c .before .before .before .before .before .before .before .before .before .args .least) (shown (now (c .before .before .before .before .before .before .before .before .before .args .volume)) .names) ((cut-told (now (c .before .before .before .before .before .before .before .before .before .args .path)) (replicate {A = ℕ} 2048 0) (replicate {A = ℕ} 2048 0) refl refl (c .before .before .before .before .get-path-parts .ensures))) (c .before .before .cut .given .1) (c .if1 .taken)
+
+reach-from-requires : tie.Need-reach-from-requires
+reach-from-requires c κs =
+    (c .before .before .before .before .before .before .before .before .before .before .before .pre .0, c .before .before .before .before .before .before .before .before .before .before .before .pre .1 .nodeOrder, c .before .before .before .before .before .before .before .before .before .before .before .pre .1 .entryOrder, ((cut-told (now (c .before .before .before .before .before .before .before .before .before .before .before .args .path)) (replicate {A = ℕ} 2048 0) (replicate {A = ℕ} 2048 0) refl refl (c .before .before .before .before .before .before .get-path-parts .ensures))) .fits _ _ (c .before .before .before .before .cut .given .1))
+
+as-directory-requires : tie.Need-as-directory-requires
+as-directory-requires c κs = search needs
+
+returns-2 : tie.Need-returns-2
+returns-2 c =
+    path-judged (c .before .before .before .before .before .before .before .before .before .before .before .before .before .before .args .start) (now (c .before .before .before .before .before .before .before .before .before .before .before .before .before .before .args .path)) (c .before .before .before .before .before .before .before .before .before .before .before .before .before .before .args .least) (shown (now (c .before .before .before .before .before .before .before .before .before .before .before .before .before .before .args .volume)) .names) ((cut-told (now (c .before .before .before .before .before .before .before .before .before .before .before .before .before .before .args .path)) (replicate {A = ℕ} 2048 0) (replicate {A = ℕ} 2048 0) refl refl (c .before .before .before .before .before .before .before .before .before .get-path-parts .ensures))) (c .before .before .before .before .before .before .before .cut .given .1) (c .before .before .before .before .before .if1 .left) (c .before .before .reach-from .ensures) (c .before .if2 .taken) (c .as-directory .ensures)
+
 enum-told : tie.Need-enum-told
 enum-told c = search needs
 
--- src/finding.rt:106:30
-returns : tie.Need-returns
-returns c =
-    path-barred (c .before .before .before .before .before .before .before .args .start) (now (c .before .before .before .before .before .before .before .args .path)) (c .before .before .before .before .before .before .before .args .least) (shown (now (c .before .before .before .before .before .before .before .args .volume)) .names) _ (c .before .match .keys2) (cut-told (now (c .before .before .before .before .before .before .before .args .path)) (replicate {A = ℕ} 2048 0) (replicate {A = ℕ} 2048 0) refl refl (c .before .before .get-path-parts .ensures))
-
--- src/finding.rt:107:49
 enum-told-2 : tie.Need-enum-told-2
 enum-told-2 c = search needs
 
--- src/finding.rt:107:25
-returns-2 : tie.Need-returns-2
-returns-2 c =
-    path-long (c .before .before .before .before .before .before .before .args .start) (now (c .before .before .before .before .before .before .before .args .path)) (c .before .before .before .before .before .before .before .args .least) (shown (now (c .before .before .before .before .before .before .before .args .volume)) .names) _ (c .before .match .keys3) (cut-told (now (c .before .before .before .before .before .before .before .args .path)) (replicate {A = ℕ} 2048 0) (replicate {A = ℕ} 2048 0) refl refl (c .before .before .get-path-parts .ensures))
-
--- src/finding.rt:110:9
 returns-3 : tie.Need-returns-3
 returns-3 c =
-    path-few (c .before .before .before .before .before .before .before .before .before .args .start) (now (c .before .before .before .before .before .before .before .before .before .args .path)) (c .before .before .before .before .before .before .before .before .before .args .least) (shown (now (c .before .before .before .before .before .before .before .before .before .args .volume)) .names) (cut-told (now (c .before .before .before .before .before .before .before .before .before .args .path)) (replicate {A = ℕ} 2048 0) (replicate {A = ℕ} 2048 0) refl refl (c .before .before .before .before .get-path-parts .ensures)) (c .before .before .cut .given .1) (c .if1 .taken)
+    path-anywhere (c .before .before .before .before .before .before .before .before .before .before .before .before .before .args .start) (now (c .before .before .before .before .before .before .before .before .before .before .before .before .before .args .path)) (c .before .before .before .before .before .before .before .before .before .before .before .before .before .args .least) (shown (now (c .before .before .before .before .before .before .before .before .before .before .before .before .before .args .volume)) .names) ((cut-told (now (c .before .before .before .before .before .before .before .before .before .before .before .before .before .args .path)) (replicate {A = ℕ} 2048 0) (replicate {A = ℕ} 2048 0) refl refl (c .before .before .before .before .before .before .before .before .get-path-parts .ensures))) (c .before .before .before .before .before .before .cut .given .1) (c .before .before .before .before .if1 .left) (c .before .reach-from .ensures) (c .if2 .left)
 
--- src/finding.rt:112:5
-reach-from-requires : tie.Need-reach-from-requires
-reach-from-requires c κs =
-    (c .before .before .before .before .before .before .before .before .before .before .before .pre .0, c .before .before .before .before .before .before .before .before .before .before .before .pre .1 .nodeOrder, c .before .before .before .before .before .before .before .before .before .before .before .pre .1 .entryOrder, cut-told (now (c .before .before .before .before .before .before .before .before .before .before .before .args .path)) (replicate {A = ℕ} 2048 0) (replicate {A = ℕ} 2048 0) refl refl (c .before .before .before .before .before .before .get-path-parts .ensures) .fits _ _ (c .before .before .before .before .cut .given .1))
-
--- src/finding.rt:97:1
 returns-4 : tie.Need-returns-4
 returns-4 c =
-    path-leads (c .before .before .before .before .before .before .before .before .before .before .before .before .args .start) (now (c .before .before .before .before .before .before .before .before .before .before .before .before .args .path)) (c .before .before .before .before .before .before .before .before .before .before .before .before .args .least) (shown (now (c .before .before .before .before .before .before .before .before .before .before .before .before .args .volume)) .names) (cut-told (now (c .before .before .before .before .before .before .before .before .before .before .before .before .args .path)) (replicate {A = ℕ} 2048 0) (replicate {A = ℕ} 2048 0) refl refl (c .before .before .before .before .before .before .before .get-path-parts .ensures)) (c .before .before .before .before .before .cut .given .1) (c .before .before .before .if1 .left) (c .reach-from .ensures)
+    path-barred (c .before .before .before .before .before .before .before .args .start) (now (c .before .before .before .before .before .before .before .args .path)) (c .before .before .before .before .before .before .before .args .least) (shown (now (c .before .before .before .before .before .before .before .args .volume)) .names) _ (c .before .match .keys2) ((cut-told (now (c .before .before .before .before .before .before .before .args .path)) (replicate {A = ℕ} 2048 0) (replicate {A = ℕ} 2048 0) refl refl (c .before .before .get-path-parts .ensures)))
+
+returns-5 : tie.Need-returns-5
+returns-5 c =
+    path-long (c .before .before .before .before .before .before .before .args .start) (now (c .before .before .before .before .before .before .before .args .path)) (c .before .before .before .before .before .before .before .args .least) (shown (now (c .before .before .before .before .before .before .before .args .volume)) .names) _ (c .before .match .keys3) ((cut-told (now (c .before .before .before .before .before .before .before .args .path)) (replicate {A = ℕ} 2048 0) (replicate {A = ℕ} 2048 0) refl refl (c .before .before .get-path-parts .ensures)))
 
 pub reach-path-spec : {M : Type 1} → statement M
 reach-path-spec =
@@ -60,10 +54,12 @@ reach-path-spec =
     (tie.spec
     get-path-parts-requires
     enum-known-cut
-    enum-told
     returns
-    enum-told-2
-    returns-2
-    returns-3
     reach-from-requires
-    returns-4)
+    as-directory-requires
+    returns-2
+    enum-told
+    enum-told-2
+    returns-3
+    returns-4
+    returns-5)

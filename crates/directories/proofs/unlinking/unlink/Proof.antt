@@ -1,44 +1,32 @@
 use borrow.Author.Needs.{needs}
 use Rattle.directories.proofs.unlinking.unlink.Statement.{statement}
 use Rattle.directories.proofs.unlinking.unlink.Tie as tie
-use Rattle.directories.proofs.unlinking.unlink.Reads as reads
-use Rattle.directories.proofs.unlinking.unlink.Lts as lts
-use Rattle.directories.proofs.finding.reach_path.Reads as reach-path-reads
-use Rattle.directories.proofs.unlinking.unlink_at.Reads as unlink-at-reads
 use denote.Ref.{now}
 use Rattle.directories.proofs.UnlinkSteps.{unlink-stopped, at-asked, unlink-ends}
 
--- src/unlinking.rt:156:9
 reach-path-requires : tie.Need-reach-path-requires
 reach-path-requires c κs = search needs
 
--- src/unlinking.rt:158:24
 enum-known-reached : tie.Need-enum-known-reached
 enum-known-reached c = search needs
 
--- src/unlinking.rt:159:26
 enum-known-reached-2 : tie.Need-enum-known-reached-2
 enum-known-reached-2 c = search needs
 
--- src/unlinking.rt:159:36
 same-length : tie.Need-same-length
 same-length c = search needs
 
--- src/unlinking.rt:159:36
 returns : tie.Need-returns
 returns c =
     unlink-stopped (c .before .before .before .before .before .before .before .args .start) (now (c .before .before .before .before .before .before .before .args .path)) (c .before .before .before .before .before .before .before .args .expected) (c .before .before .before .before .before .before .before .args .opens) (now (c .before .before .before .before .before .before .before .args .volume)) (c .before .before .before .before .before .before .before .args .layout) (c .before .before .before .before .before .before .before .pre .0) (c .before .before .before .before .before .before .before .pre .1) (c .before .before .before .reach-path .ensures) (c .before .reached2 .given .1)
 
--- src/unlinking.rt:161:5
 unlink-at-requires : tie.Need-unlink-at-requires
 unlink-at-requires c κs =
     at-asked (c .before .before .before .before .before .before .before .before .args .start) (now (c .before .before .before .before .before .before .before .before .args .path)) (c .before .before .before .before .before .before .before .before .args .expected) (c .before .before .before .before .before .before .before .before .args .opens) (now (c .before .before .before .before .before .before .before .before .args .volume)) (c .before .before .before .before .before .before .before .before .args .layout) (c .before .before .before .before .before .before .before .before .pre .0) (c .before .before .before .before .before .before .before .before .pre .1) (c .before .before .before .before .reach-path .ensures) (c .before .before .reached .given .1)
 
--- src/unlinking.rt:145:1
 same-length-2 : tie.Need-same-length-2
 same-length-2 c = search needs
 
--- src/unlinking.rt:145:1
 returns-2 : tie.Need-returns-2
 returns-2 c =
     unlink-ends (c .before .before .before .before .before .before .before .before .before .before .before .args .start) (now (c .before .before .before .before .before .before .before .before .before .before .before .args .path)) (c .before .before .before .before .before .before .before .before .before .before .before .args .expected) (c .before .before .before .before .before .before .before .before .before .before .before .args .opens) (now (c .before .before .before .before .before .before .before .before .before .before .before .args .volume)) (c .before .before .before .before .before .before .before .before .before .before .before .args .layout) (c .before .before .before .before .before .before .before .before .before .before .before .pre .0) (c .before .before .before .before .before .before .before .before .before .before .before .pre .1) (c .before .before .before .before .before .before .before .reach-path .ensures) (c .before .before .before .before .before .reached .given .1) (c .before .before .unlink-at .ensures)

@@ -3,7 +3,7 @@
 use std::ffi::OsStr;
 use std::os::unix::ffi::OsStrExt;
 
-use lentilraft::{Error, Kind, Node, Result, ROOT};
+use lentilraft::{Error, Node, Result, ROOT};
 
 use super::{flag, option};
 use crate::args::{self, Arguments, Command, Run};
@@ -26,10 +26,10 @@ pub const PUT: Command = Command {
         flag("--sparse", "leave chunks of zeros as gaps"),
     ],
     details: "\
-Makes the file if need be. Without --at the file has the bytes of FILE then, and no others; with
---at, what lies between its old end and the offset is a gap, and reads as zeros. The bytes come
-from standard input if no FILE is given. The volume is locked while they are read, so that nothing
-that came in is lost because another command was faster.",
+Makes the file if need be; PATH ends with its name, not with a slash. Without --at the file has the
+bytes of FILE then, and no others; with --at, what lies between its old end and the offset is a gap,
+and reads as zeros. The bytes come from standard input if no FILE is given. The volume is locked
+while they are read, so that nothing that came in is lost because another command was faster.",
     example: "lentil put traces.vol hood7/run1 run1.bin --at 1M",
     run: Run::Plain(put),
 };
@@ -81,7 +81,7 @@ fn put(arguments: &Arguments) -> Outcome<()> {
     }
     let mut held = Held::open(arguments.place(0))?;
     let path = arguments.path(1);
-    let node = file_at(&mut held.volume, path).about(path)?;
+    let node = file_at(&mut held.volume, path)?;
     let mut source = Source::open(arguments.place(2))?;
     let volume = &mut held.volume;
     let chunks = Chunks::of(volume).about(path)?;
@@ -103,12 +103,12 @@ fn put(arguments: &Arguments) -> Outcome<()> {
 
 /// The node at a path, a new file if there is none. A directory is refused before bytes are read
 /// for it, by a write of none.
-fn file_at(volume: &mut Volume, path: &[u8]) -> Result<Node> {
+fn file_at(volume: &mut Volume, path: &[u8]) -> Outcome<Node> {
     let node = match volume.find(ROOT, path) {
-        Err(Error::NoSuchEntry) => tree::make(volume, path, Kind::File),
-        found => found,
-    }?;
-    volume.write(node, 0, &[])?;
+        Err(Error::NoSuchEntry) => tree::make_file(volume, path)?,
+        found => found.about(path)?,
+    };
+    volume.write(node, 0, &[]).about(path)?;
     Ok(node)
 }
 

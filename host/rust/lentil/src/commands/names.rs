@@ -223,7 +223,7 @@ fn mkdir(arguments: &Arguments) -> Outcome<()> {
     let path = arguments.path(1);
     let made = match arguments.has("-p") {
         true => tree::make_directories(&mut held.volume, path),
-        false => tree::make(&mut held.volume, path, Kind::Directory),
+        false => tree::make_directory(&mut held.volume, path),
     };
     made.about(path)?;
     held.save()
@@ -233,7 +233,7 @@ fn ln(arguments: &Arguments) -> Outcome<()> {
     let mut held = Held::open(arguments.place(0))?;
     let (path, new_path) = (arguments.path(1), arguments.path(2));
     let node = held.volume.find(ROOT, path).about(path)?;
-    tree::name(&mut held.volume, new_path, node).about(new_path)?;
+    tree::name_file(&mut held.volume, new_path, node)?;
     held.save()
 }
 

@@ -16,6 +16,28 @@ fn with_folder() -> (Owned, Node) {
     (volume, folder)
 }
 
+/// Ends by which a path means a directory: its last piece is empty, `.` or `..`.
+const DIRECTORY_ENDS: [&str; 6] = ["/", "//", "/.", "/./", "/x/..", "/x/../"];
+
+/// A directory, a file and a symbolic link in the root, in this order.
+const KINDS: [(&str, Kind); 3] = [
+    ("traces", Kind::Directory),
+    ("hood7.csv", Kind::File),
+    ("newest", Kind::SymbolicLink),
+];
+
+/// A volume with these, and their nodes.
+fn with_kinds() -> (Owned, [Node; 3]) {
+    let mut volume = new_volume(ChunkSize::K4);
+    let nodes = KINDS.map(|(name, kind)| volume.create(ROOT, name.as_bytes(), kind).unwrap());
+    (volume, nodes)
+}
+
+/// A name with each of the ends.
+fn with_ends(name: &str) -> impl Iterator<Item = String> + '_ {
+    DIRECTORY_ENDS.iter().map(move |end| [name, end].concat())
+}
+
 /// A folder that has no name any more.
 fn with_nameless_folder() -> (Owned, Node) {
     let mut volume = new_volume(ChunkSize::K4);
@@ -172,7 +194,7 @@ fn paths_lead_to_nodes() {
     let file = volume.next_entry(folder, 0).unwrap().node;
     for path in [
         &b"traces/hood-7"[..],
-        b"./traces//hood-7/",
+        b"./traces//hood-7",
         b"x/../traces/hood-7",
     ] {
         assert_eq!(volume.find(ROOT, path), Ok(file));
@@ -194,6 +216,59 @@ fn find_is_refused() {
     assert_eq!(refused(ROOT, &[b'a'; 256]), Error::BadName);
     assert_eq!(refused(ROOT, b"traces/hood-9"), Error::NoSuchEntry);
     assert_eq!(refused(ROOT, b"traces/hood-7/x"), Error::NoSuchEntry);
+}
+
+#[test]
+fn a_path_that_means_a_directory_finds_no_file() {
+    let (mut volume, [folder, file, _]) = with_kinds();
+    volume.link(folder, b"again", file).unwrap();
+    for path in with_ends("hood7.csv").chain(with_ends("traces/again")) {
+        let error = refusal(&mut volume, |v| v.find(ROOT, path.as_bytes()));
+        assert_eq!(error, Error::NotDirectory, "{}", path);
+    }
+    assert_eq!(volume.find(ROOT, b"hood7.csv"), Ok(file));
+    // Dots that are a name, or stand before the last piece, mean nothing of that kind.
+    for name in ["...", ".a", "a."] {
+        let dotted = volume.create(ROOT, name.as_bytes(), Kind::File).unwrap();
+        let path = ["./x/..//", name].concat();
+        assert_eq!(volume.find(ROOT, path.as_bytes()), Ok(dotted));
+    }
+}
+
+#[test]
+fn a_path_that_means_a_directory_finds_directories_and_symbolic_links() {
+    let (volume, [folder, _, link]) = with_kinds();
+    for (name, node) in [("traces", folder), ("newest", link)] {
+        for path in with_ends(name) {
+            assert_eq!(volume.find(ROOT, path.as_bytes()), Ok(node), "{}", path);
+        }
+    }
+}
+
+#[test]
+fn a_path_that_means_a_directory_is_walked_first() {
+    let (mut volume, _) = with_kinds();
+    let mut refused = |start, path: &[u8]| refusal(&mut volume, |v| v.find(start, path));
+    assert_eq!(refused(ROOT, b"missing/"), Error::NoSuchEntry);
+    assert_eq!(refused(ROOT, b"hood7.csv/x/"), Error::NoSuchEntry);
+    assert_eq!(refused(ROOT, b"newest/x/"), Error::NoSuchEntry);
+    assert_eq!(refused(MISSING, b"hood7.csv/"), Error::NoSuchEntry);
+    let long = [&[b'a'; 256][..], b"/"].concat();
+    assert_eq!(refused(ROOT, &long), Error::BadName);
+    assert_eq!(refused(ROOT, b"/hood7.csv/"), Error::PathNotPermitted);
+    let long = [&b"hood7.csv"[..], &[b'/'; 4088]].concat();
+    assert_eq!(refused(ROOT, &long), Error::InvalidArgument);
+    assert_eq!(refused(ROOT, &long[..4096]), Error::NotDirectory);
+}
+
+#[test]
+fn a_path_with_no_part_left_leads_to_any_start() {
+    let (volume, nodes) = with_kinds();
+    for start in nodes {
+        for path in ["", ".", "./", "x/..", "x/../", "x/y/../.."] {
+            assert_eq!(volume.find(start, path.as_bytes()), Ok(start), "{}", path);
+        }
+    }
 }
 
 #[test]
@@ -241,6 +316,55 @@ fn unlink_is_refused() {
         Error::NotDirectory
     );
     assert_eq!(refused(folder, b"hood-7", Expected::File, 1), Error::Busy);
+}
+
+#[test]
+fn a_path_that_means_a_directory_unlinks_no_file() {
+    let (mut volume, [_, file, _]) = with_kinds();
+    for expected in [Expected::Any, Expected::File, Expected::Directory] {
+        for path in with_ends("hood7.csv") {
+            // That it is open, and has no other name, is asked behind that.
+            for opens in [0, 1] {
+                let path = path.as_bytes();
+                let error = refusal(&mut volume, |v| v.unlink(ROOT, path, expected, opens));
+                assert_eq!(error, Error::NotDirectory);
+            }
+        }
+    }
+    for path in [&b"missing/"[..], b"hood7.csv/x/"] {
+        let error = refusal(&mut volume, |v| v.unlink(ROOT, path, Expected::Any, 0));
+        assert_eq!(error, Error::NoSuchEntry);
+    }
+    let error = refusal(&mut volume, |v| v.unlink(file, b"x/../", Expected::Any, 0));
+    assert_eq!(error, Error::PathNotPermitted);
+}
+
+#[test]
+fn a_path_that_means_a_directory_unlinks_directories_and_symbolic_links() {
+    for (name, kind) in [KINDS[0], KINDS[2]] {
+        for path in with_ends(name) {
+            let mut volume = new_volume(ChunkSize::K4);
+            let node = volume.create(ROOT, name.as_bytes(), kind).unwrap();
+            let unlinked = volume.unlink(ROOT, path.as_bytes(), Expected::Any, 0);
+            assert_eq!(unlinked, Ok(node), "{}", path);
+            assert!(names(&volume, ROOT).is_empty());
+        }
+    }
+}
+
+#[test]
+fn unlink_asks_of_what_it_expects_behind_the_path() {
+    let (mut volume, [folder, _, _]) = with_kinds();
+    volume.create(folder, b"x", Kind::File).unwrap();
+    let mut refused =
+        |path: &[u8], expected| refusal(&mut volume, |v| v.unlink(ROOT, path, expected, 1));
+    assert_eq!(refused(b"traces/", Expected::File), Error::IsDirectory);
+    assert_eq!(refused(b"traces/", Expected::Any), Error::DirectoryNotEmpty);
+    assert_eq!(
+        refused(b"newest/", Expected::Directory),
+        Error::NotDirectory
+    );
+    assert_eq!(refused(b"newest/", Expected::File), Error::Busy);
 }
 
 #[test]
