@@ -63,17 +63,17 @@ use Rattle.sequences.proofs.OneCall.{is-done, door-answer, door-after}
 -- ---- a call on bytes, by what it makes of the volume that they show
 
 -- bytes that are sound and show v
-record Memory (l : List ℕ) (v : Volume) : Type 0 where
-  bytes : Bytes l
-  sound : Sound l
-  volume : shown l ≡ v
+pub record Memory (l : List ℕ) (v : Volume) : Type 0 where
+  pub bytes : Bytes l
+  pub sound : Sound l
+  pub volume : shown l ≡ v
 
 -- a call's outcome, as a step of the volume
-record Does (o : Outcome) (s : Step) : Type 0 where
-  answer : o .answer ≡ s .answer
-  after : Memory (o .bytes) (s .after)
+pub record Does (o : Outcome) (s : Step) : Type 0 where
+  pub answer : o .answer ≡ s .answer
+  pub after : Memory (o .bytes) (s .after)
 
-door-does : (call : Volume → Step) → ((v : Volume) → Fits v → Good v → Fits (call v .after) × Good (call v .after)) → ((v : Volume) → Good v → RawBytes v → RawBytes (call v .after))
+pub door-does : (call : Volume → Step) → ((v : Volume) → Fits v → Good v → Fits (call v .after) × Good (call v .after)) → ((v : Volume) → Good v → RawBytes v → RawBytes (call v .after))
     → {l : List ℕ} {v : Volume} → Memory l v → Does (door l call) (call v)
 door-does call keeps raw {l} {v} h = record {
   answer = door-answer call keeps l (h .bytes) (h .sound) ∙ ap (λ w. call w .answer) (h .volume);
@@ -92,7 +92,7 @@ resize-does : (n z : ℕ) {l : List ℕ} {v : Volume} → Memory l v → Does (D
 unfolding Door.resize
 resize-does n z = door-does (Resize.resize n z) (resize-kept n z) (resize-raw n z)
 
-create-does : (p : ℕ) (name : Lent) (byte : ℕ) {l : List ℕ} {v : Volume} → Memory l v → Does (Door.create p (name .list) byte l) (nameStep (Entering.create p (name .list) byte) v)
+pub create-does : (p : ℕ) (name : Lent) (byte : ℕ) {l : List ℕ} {v : Volume} → Memory l v → Does (Door.create p (name .list) byte l) (nameStep (Entering.create p (name .list) byte) v)
 unfolding Door.create
 create-does p name byte =
     door-does (nameStep (Entering.create p (name .list) byte)) (name-kept (Entering.create p (name .list) byte) (create-kept p (name .list) byte) (create-owned p (name .list) byte)) (create-raw p (name .list) byte (name .bytes))
@@ -101,7 +101,7 @@ read-does : (n offset : ℕ) (buffer : List ℕ) {l : List ℕ} {v : Volume} →
 unfolding Door.read doorInto ifSound pick
 read-does n offset buffer {l} h = rw (true-sound l (h .sound)) (ap (λ w. Read.read n offset w buffer) (h .volume))
 
-find-does : (start : ℕ) (path l : List ℕ) → Sound l → Door.findNode start path l ≡ Walks.findNode start path (shown l .names)
+pub find-does : (start : ℕ) (path l : List ℕ) → Sound l → Door.findNode start path l ≡ Walks.findNode start path (shown l .names)
 unfolding Door.findNode ifSound pick
 find-does start path l h = rw (true-sound l h) refl
 
@@ -133,7 +133,7 @@ not-found start path l h e = ap number (find-does start path l h ∙ ap (onCutti
 
 -- row by row
 infixr 20 _also_
-_also_ : {A B : Type 0} → A → B → A × B
+pub _also_ : {A B : Type 0} → A → B → A × B
 _also_ a b = (a, b)
 
 pub boundary : (l : List ℕ) → Bytes l → Sound l → (n : ℕ) (r : NodeRecord) → Start n r (shown l) → (three one : Lent) → length (three .list) ≡ 3 → length (one .list) ≡ 1 → (start : ℕ)
@@ -204,8 +204,8 @@ module _ (n e c area : ℕ) (name : List ℕ) where
       }
 
 -- the same on bytes
-module _ (n e c : ℕ) (l : List ℕ) (name : Lent) (q : accepted (newVolume n e c 16384) l ≡ true) where
-  abbrev area : ℕ
+module _ (n e c : ℕ) (l : List ℕ) (q : accepted (newVolume n e c 16384) l ≡ true) where
+  abbrev pub area : ℕ
   area = length l - atBytes n e c
 
   abbrev given : Made n e c 16384 l (Fresh.newVolume n e c 16384 l .bytes)
@@ -214,7 +214,7 @@ module _ (n e c : ℕ) (l : List ℕ) (name : Lent) (q : accepted (newVolume n e
   new-fits : Fits (fresh n e c 16384 area)
   new-fits = fits-fresh n e c 16384 (length l) (given .placed) (given .accepted)
 
-  new-memory : Memory (Fresh.newVolume n e c 16384 l .bytes) (fresh n e c 16384 area)
+  pub new-memory : Memory (Fresh.newVolume n e c 16384 l .bytes) (fresh n e c 16384 area)
   unfolding freshLaid
   new-memory = rw (given .bytes) (record {
     bytes = fresh-bytes n e c 16384 (length l);
@@ -222,16 +222,16 @@ module _ (n e c : ℕ) (l : List ℕ) (name : Lent) (q : accepted (newVolume n e
     volume = shown-laid (fresh n e c 16384 area) new-fits;
   })
 
-  made-memory : Memory (runAll (newVolume n e c 16384 ∷ create 0 name 1 ∷ []) l) (made n e c area (name .list))
-  made-memory = create-does 0 name 1 new-memory .after
+  made-memory : (name : Lent) → Memory (runAll (newVolume n e c 16384 ∷ create 0 name 1 ∷ []) l) (made n e c area (name .list))
+  made-memory name = create-does 0 name 1 new-memory .after
 
 -- a new volume and one create give the start
 pub start-given : (n e c : ℕ) (l : List ℕ) (name : Lent) → accepted (newVolume n e c 16384) l ≡ true → 2 ≤ n → 2 ≤ c → nameAllowed (name .list) ≡ true
     → Start 1 (newNode 1 RegularFile) (shown (runAll (newVolume n e c 16384 ∷ create 0 name 1 ∷ []) l))
 start-given n e c l name q nodes chunks allowed =
-    rw (made-memory n e c l name q .volume) (start-there n e c (area n e c l name q) (name .list) nodes (given n e c l name q .placed .entries .0) chunks allowed (new-fits n e c l name q))
+    rw (made-memory n e c l q name .volume) (start-there n e c (area n e c l q) (name .list) nodes (given n e c l q .placed .entries .0) chunks allowed (new-fits n e c l q))
 
 -- in a memory that `boundary` speaks of
 pub start-sound : (n e c : ℕ) (l : List ℕ) (name : Lent) → accepted (newVolume n e c 16384) l ≡ true
     → Bytes (runAll (newVolume n e c 16384 ∷ create 0 name 1 ∷ []) l) × Sound (runAll (newVolume n e c 16384 ∷ create 0 name 1 ∷ []) l)
-start-sound n e c l name q = (made-memory n e c l name q .bytes, made-memory n e c l name q .sound)
+start-sound n e c l name q = (made-memory n e c l q name .bytes, made-memory n e c l q name .sound)

@@ -17,3 +17,4 @@ pub mod NeverUnsound
 pub mod FirstOnly
 pub mod LimitRow
 pub mod BoundaryTable
+pub mod FolderRows

@@ -1,5 +1,6 @@
 -- Believed: the scope's boundary table, P1 to P11, as data: what is called, and what must come out. It starts from chunks of 16,384 bytes,
--- room for at least two of them, and a file of its own that is empty and has no limit, first in the volume (`Start`).
+-- room for at least two of them, and a file of its own that is empty and has no limit, first in the volume (`Start`). And a table of paths
+-- that mean a directory, which starts from a new volume.
 -- Assumes nothing.
 use mathlib.Core.Path.{_≡_}
 use mathlib.Core.Bool.{true}
@@ -11,8 +12,9 @@ use Rattle.words.specs.Bytes.{Bytes}
 use Rattle.words.specs.Tables.{Each}
 use Rattle.types.specs.Outcomes.{done}
 use Rattle.types.specs.declared.Answer.the-variants.{Done}
+use Rattle.types.specs.declared.Expected.the-variants.{Any}
 use Rattle.paths.specs.Boundary.{byteA, byteB, path8, path9, path10, path11}
-use Rattle.paths.specs.Path.{nameAllowed}
+use Rattle.paths.specs.Path.{slash, dot, nameAllowed}
 use Rattle.allocator.specs.Allocator.{free}
 use Rattle.volume.specs.declared.ChunkRow.{ChunkRow}
 use Rattle.volume.specs.Volume.{shown}
@@ -20,7 +22,7 @@ use Rattle.names.specs.Walks.{walkFrom, asDirectory, nodeReached}
 use Rattle.files.specs.Boundary.{row}
 use Rattle.sequences.specs.Fs.{NodeSeen}
 use Rattle.sequences.specs.Show.{show}
-use Rattle.sequences.specs.Calls.{Lent, Call, read, write, resize, findNode}
+use Rattle.sequences.specs.Calls.{Lent, Call, newVolume, read, write, resize, findNode, create, unlink}
 use Rattle.sequences.specs.Run.{told, filled, replyNumber, run, runAll}
 
 -- ---- what comes out of a call
@@ -99,4 +101,35 @@ boundaryTable n three one start =
     ∷ record { before = []; call = findNode start path10; comes = looksUpDirectory start ((byteA ∷ []) ∷ (byteB ∷ []) ∷ []) ∷ [] }
     -- P11: `...`: a name
     ∷ record { before = []; call = findNode start path11; comes = looksUp start (path11 ∷ []) ∷ [] }
+    ∷ []
+
+-- ---- paths that mean a directory
+
+-- the byte `c`
+abbrev pub byteC : ℕ
+byteC = 99
+
+-- a new volume whose root has a regular file `a`, node 1, a directory `b`, node 2, and a symbolic link `c`, node 3
+abbrev pub kindsMade : Lent → Lent → Lent → List Call
+kindsMade a b c = newVolume 4 3 1 16384 ∷ create 0 a 1 ∷ create 0 b 0 ∷ create 0 c 2 ∷ []
+
+-- behind these calls
+abbrev pub folderTable : List Call → List BoundaryRow
+folderTable made =
+    -- `a` ends in a name
+    record { before = made; call = findNode 0 (byteA ∷ []); comes = answered 1 ∷ [] }
+    -- `a/`, `a/.`, `a/b/..`: 4
+    ∷ record { before = made; call = findNode 0 (byteA ∷ slash ∷ []); comes = refusedWith 4 ∷ [] }
+    ∷ record { before = made; call = findNode 0 (byteA ∷ slash ∷ dot ∷ []); comes = refusedWith 4 ∷ [] }
+    ∷ record { before = made; call = findNode 0 (byteA ∷ slash ∷ byteB ∷ slash ∷ dot ∷ dot ∷ []); comes = refusedWith 4 ∷ [] }
+    -- `a/b/`: below a file there is no entry, so that the walk's 2 comes first
+    ∷ record { before = made; call = findNode 0 (byteA ∷ slash ∷ byteB ∷ slash ∷ []); comes = refusedWith 2 ∷ [] }
+    -- `b/`, `c/`: a directory and a symbolic link pass
+    ∷ record { before = made; call = findNode 0 (byteB ∷ slash ∷ []); comes = answered 2 ∷ [] }
+    ∷ record { before = made; call = findNode 0 (byteC ∷ slash ∷ []); comes = answered 3 ∷ [] }
+    -- `./` from the file: no part is left
+    ∷ record { before = made; call = findNode 1 (dot ∷ slash ∷ []); comes = answered 1 ∷ [] }
+    -- unlink `a/`, open: 4 before 12; `c/`
+    ∷ record { before = made; call = unlink 0 (byteA ∷ slash ∷ []) Any 1; comes = refusedWith 4 ∷ [] }
+    ∷ record { before = made; call = unlink 0 (byteC ∷ slash ∷ []) Any 0; comes = answered 3 ∷ [] }
     ∷ []
