@@ -59,7 +59,7 @@ says-named a =
     (λ n. ((n .nodeOrder, n .entryOrder), ((n .indexes, (n .fresh, (n .root, (n .unnamed, n .names)))), (n .parents, (n .targets, (n .once, n .nodes))))))
     (says-and (says-ordered a) (λ o. says-both
     (says-both (says-indexed (a .entries)) (says-both (says-below (a .nextNode) (a .nodes)) (says-both (says-root a (o .0)) (says-both (says-unnamed (a .entries)) (says-names (a .entries))))))
-    (says-both (says-parents a (o .0)) (says-both (says-targets a (o .0)) (says-both (says-once (a .entries) (o .1)) (says-nodes (a .nodes) (a .entries)))))))
+    (says-both (says-parents a (o .0)) (says-both (says-targets a (o .0)) (says-both (says-once (a .entries)) (says-nodes (a .nodes) (a .entries)))))))
 
 pub says-stored : (s : Store) → 0 < s .allocator .chunkSize → s .chunkRoom ≤ 4096 → Says (Stored s) (stored s)
 unfolding stored

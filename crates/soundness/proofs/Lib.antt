@@ -1,5 +1,6 @@
 pub mod FrameRules
 pub mod OrderRules
+pub mod NameOrder
 pub mod EntryRules
 pub mod NodeRules
 pub mod Counters

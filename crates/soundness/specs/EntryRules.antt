@@ -1,15 +1,14 @@
 -- Inner: rules between entries and the nodes they name, and between entries of one directory, as tests by their places in the tables.
 -- Assumes nothing.
-use Prim.Native.Nat.{ℕ, _+_, _-_}
+use Prim.Native.Nat.{ℕ}
 use mathlib.Core.Bool.{Bool, true, false, not}
 use mathlib.Core.List.{List}
 use lib.ListN.{length}
-use Rattle.words.specs.Rules.{upto, same}
-use Rattle.words.specs.Tables.{lead}
+use lib.Dec.{eqb}
+use Rattle.words.specs.Rules.{both, upto, same}
 use Rattle.types.specs.Nodes.{isDirectory}
 use Rattle.types.specs.declared.NodeRecord.{NodeRecord}
 use Rattle.volume.specs.Rows.{Entry}
-use Rattle.volume.specs.Search.{entryUnder}
 use Rattle.tables.specs.Tables.{nodeAt, entryAt, foundNode}
 use Rattle.tables.specs.declared.Found.{Found}
 use Rattle.tables.specs.declared.Found.the-variants.{At, Nothing}
@@ -30,13 +29,13 @@ parentsGood rs es = upto (length es) (λ i. foundDirectory rs (foundNode (entryA
 unfoldable pub targetsFound : List NodeRecord → List Entry → Bool
 targetsFound rs es = upto (length es) (λ i. isFound (foundNode (entryAt es i .node) rs))
 
--- the first row of the directory that row i stands in: rows ascend, so that those between are of the same directory
-unfoldable pub firstBeside : List Entry → ℕ → ℕ
-firstBeside es i = lead (entryUnder (entryAt es i .parent) 0) es
+-- two entries have one name in one directory
+unfoldable pub sameName : Entry → Entry → Bool
+sameName a b = both (eqb (a .parent) (b .parent)) (same (a .name) (b .name))
 
--- no row between has the name of row i
+-- no row before row i has its name
 unfoldable pub nameNew : List Entry → ℕ → Bool
-nameNew es i = upto (i - firstBeside es i) (λ k. not (same (entryAt es (firstBeside es i + k) .name) (entryAt es i .name)))
+nameNew es i = upto i (λ k. not (sameName (entryAt es k) (entryAt es i)))
 
 -- no name stands twice in a directory
 unfoldable pub namesOnce : List Entry → Bool

@@ -1,9 +1,9 @@
 // The whole check: the frame, then nodes and entries, the chunk store, and the owners of the chunks; each in the scope's order.
-use crate::entries::names_once;
 use crate::entries::parents_good;
 use crate::entries::targets_found;
 use crate::frame::is_formed;
 use crate::frame::read_header;
+use crate::names::names_once;
 use crate::nodes::nodes_good;
 use crate::order::chunks_ascend;
 use crate::order::entries_ascend;

@@ -1,19 +1,14 @@
-// Rules between entries and the nodes they name, and between entries of one directory.
+// Rules between entries and the nodes they name.
 use tables::Found;
 use volume::Layout;
 ghost use mathlib.Core.Path.{_≡_};
-ghost use mathlib.Core.Bool.{not};
 ghost use Prim.Native.Nat.{_<_};
 ghost use lib.ListN.{length};
-ghost use Rattle.words.specs.Rules.{same};
 ghost use Rattle.words.specs.Tables.{Asc};
 ghost use Rattle.volume.specs.Volume.{shown};
-ghost use Rattle.volume.specs.Sound.{nodeBefore, entryBefore};
+ghost use Rattle.volume.specs.Sound.{nodeBefore};
 ghost use Rattle.tables.specs.Tables.{Ready, entryAt, foundNode};
-ghost use Rattle.soundness.specs.EntryRules.{isFound, foundDirectory, parentsGood, targetsFound, nameNew, namesOnce};
-
-// An index below that of every entry: a search for it finds the first entry of a directory.
-const NO_INDEX: u64 = 0;
+ghost use Rattle.soundness.specs.EntryRules.{isFound, foundDirectory, parentsGood, targetsFound};
 
 // Whether the parent of the entry in row i is a directory.
 fn parent_good(volume: &[u8], layout: Layout, i: usize) -> bool
@@ -68,49 +63,6 @@ pub fn targets_found(volume: &[u8], layout: Layout) -> bool
     let mut i = 0;
     while i < used {
         if !target_found(volume, layout, i) {
-            return false;
-        }
-        i += 1;
-    }
-    true
-}
-
-// Whether the names of the entries in rows i and j differ.
-fn names_differ(volume: &[u8], layout: Layout, i: usize, j: usize) -> bool
-    requires { ⌜ Ready (now volume) layout × (i < length (shown (now volume) .names .entries)) × (j < length (shown (now volume) .names .entries)) ⌝ }
-    ensures { λ r. ⌜ r ≡ not (same (entryAt (shown (now (volume .entry)) .names .entries) i .name) (entryAt (shown (now (volume .entry)) .names .entries) j .name)) ⌝ }
-{
-    let other = tables::entry_name(volume, layout, i);
-    let name = tables::entry_name(volume, layout, j);
-    !words::same(other, name)
-}
-
-// Whether no entry before row i in its directory has its name.
-fn name_new(volume: &[u8], layout: Layout, i: usize) -> bool
-    requires { ⌜ Ready (now volume) layout × Asc entryBefore (shown (now volume) .names .entries) × (i < length (shown (now volume) .names .entries)) ⌝ }
-    ensures { λ r. ⌜ r ≡ nameNew (shown (now (volume .entry)) .names .entries) i ⌝ }
-{
-    let parent = tables::entry_parent(volume, layout, i);
-    let first = tables::first_entry(volume, layout, parent, NO_INDEX);
-    let mut k = first;
-    while k < i {
-        if !names_differ(volume, layout, k, i) {
-            return false;
-        }
-        k += 1;
-    }
-    true
-}
-
-// Whether no name stands twice in a directory.
-pub fn names_once(volume: &[u8], layout: Layout) -> bool
-    requires { ⌜ Ready (now volume) layout × Asc entryBefore (shown (now volume) .names .entries) ⌝ }
-    ensures { λ r. ⌜ r ≡ namesOnce (shown (now (volume .entry)) .names .entries) ⌝ }
-{
-    let used = tables::entries_used(volume, layout);
-    let mut i = 0;
-    while i < used {
-        if !name_new(volume, layout, i) {
             return false;
         }
         i += 1;

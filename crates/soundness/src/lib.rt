@@ -3,6 +3,7 @@
 mod check;
 mod entries;
 mod frame;
+mod names;
 mod nodes;
 mod order;
 mod owners;

@@ -4,6 +4,7 @@ pub mod Numbers
 pub mod Joined
 pub mod Rules
 pub mod Blocks
+pub mod RankOrder
 pub mod Order
 pub mod Places
 pub mod Counting

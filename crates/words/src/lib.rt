@@ -3,6 +3,7 @@
 mod compare;
 mod dividing;
 mod moves;
+mod ranks;
 
 pub use compare::is_zero;
 pub use compare::same;
@@ -12,6 +13,7 @@ pub use moves::clear;
 pub use moves::copy;
 pub use moves::shift_down;
 pub use moves::shift_up;
+pub use ranks::ranks_below;
 ghost use mathlib.Core.Path.{_≡_};
 ghost use Prim.Native.Nat.{_+_, _*_, _≤_, _<_};
 ghost use lib.ListN.{length};
