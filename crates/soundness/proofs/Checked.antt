@@ -3,13 +3,15 @@
 use mathlib.Core.Path.{_≡_, ap}
 use mathlib.Core.Bool.{true, false}
 use mathlib.Core.List.{List}
-use Prim.Native.Nat.{ℕ, _+_, _*_, _≤_, _<_}
+use Prim.Native.Nat.{ℕ, _≤_, _<_}
 use native.Mathlib.Omega.{arith}
 use lib.ListN.{length}
 use denote.Enum.Declared.{tagOf}
 use Rattle.words.specs.Bytes.{Bytes}
 use Rattle.words.specs.Tables.{Asc}
 use Rattle.words.specs.Rules.{Says}
+use Rattle.words.proofs.Order.{each-map}
+use Rattle.words.proofs.Middle.{each-pair}
 use Rattle.words.proofs.Rules.{says-map, says-both, says-and, says-true, true-says}
 use Rattle.allocator.specs.Allocator.{free}
 use Rattle.allocator.proofs.Sizes.{accepted-bounds}
@@ -19,7 +21,7 @@ use Rattle.volume.specs.declared.Place.the-variants.{At}
 use Rattle.volume.specs.Volume.{Names, Store, Volume, shown}
 use Rattle.volume.specs.Layouts.{layoutIn}
 use Rattle.volume.specs.Framed.{Framed}
-use Rattle.volume.specs.Sound.{nodeBefore, entryBefore, Named, Stored, Good, Sound}
+use Rattle.volume.specs.Sound.{node, DirectoryThere, NodeThere, nodeBefore, entryBefore, Named, Stored, Good, Sound}
 use Rattle.volume.proofs.Place.{the-type}
 use Rattle.volume.proofs.GeometryRules.{place-fails, place-passes, place-layout}
 use Rattle.volume.proofs.Laid.{framed-formed}
@@ -27,8 +29,8 @@ use Rattle.volume.proofs.SoundWords.{size-accepted}
 use Rattle.tables.specs.Tables.{Ready}
 use Rattle.soundness.specs.Checked.{ordered, numbered, related, named, stored, good, sound, placeIfSound}
 use Rattle.soundness.proofs.FrameRules.{says-framed}
-use Rattle.soundness.proofs.OrderRules.{says-node-order, says-entry-order, says-chunk-order, says-indexed, says-below, says-names, says-unnamed, says-root}
-use Rattle.soundness.proofs.EntryRules.{says-parents, says-targets, says-once}
+use Rattle.soundness.proofs.OrderRules.{says-node-order, says-entry-order, says-chunk-order, says-below, says-numbered, says-root}
+use Rattle.soundness.proofs.EntryRules.{says-related, says-once}
 use Rattle.soundness.proofs.NodeRules.{says-nodes}
 use Rattle.soundness.proofs.PointerRules.{says-next, next-low, says-pointers}
 use Rattle.soundness.proofs.OwnerRules.{says-owned}
@@ -46,20 +48,20 @@ says-named a =
     (λ p. record {
       nodeOrder = p .0 .0;
       entryOrder = p .0 .1;
-      indexes = p .1 .0 .0;
-      fresh = p .1 .0 .1 .0;
-      root = p .1 .0 .1 .1 .0;
-      unnamed = p .1 .0 .1 .1 .1 .0;
-      names = p .1 .0 .1 .1 .1 .1;
-      parents = p .1 .1 .0;
-      targets = p .1 .1 .1 .0;
-      once = p .1 .1 .1 .1 .0;
-      nodes = p .1 .1 .1 .1 .1;
+      indexes = p .1 .0 .1 .1 .0;
+      fresh = p .1 .0 .0;
+      root = p .1 .0 .1 .0;
+      unnamed = p .1 .0 .1 .1 .1;
+      names = p .1 .0 .1 .1 .2;
+      parents = each-map _ (λ e. DirectoryThere (node (e .parent) a)) (λ e h. h .0) (a .entries) (p .1 .1 .0);
+      targets = each-map _ (λ e. NodeThere (node (e .node) a)) (λ e h. h .1) (a .entries) (p .1 .1 .0);
+      nodes = p .1 .1 .1 .0;
+      once = p .1 .1 .1 .1;
     })
-    (λ n. ((n .nodeOrder, n .entryOrder), ((n .indexes, (n .fresh, (n .root, (n .unnamed, n .names)))), (n .parents, (n .targets, (n .once, n .nodes))))))
+    (λ n. ((n .nodeOrder, n .entryOrder), ((n .fresh, (n .root, (n .indexes, n .unnamed, n .names))), (each-pair _ _ (a .entries) (n .parents) (n .targets), (n .nodes, n .once)))))
     (says-and (says-ordered a) (λ o. says-both
-    (says-both (says-indexed (a .entries)) (says-both (says-below (a .nextNode) (a .nodes)) (says-both (says-root a (o .0)) (says-both (says-unnamed (a .entries)) (says-names (a .entries))))))
-    (says-both (says-parents a (o .0)) (says-both (says-targets a (o .0)) (says-both (says-once (a .entries)) (says-nodes (a .nodes) (a .entries)))))))
+    (says-both (says-below (a .nextNode) (a .nodes)) (says-both (says-root a (o .0)) (says-numbered (a .entries))))
+    (says-both (says-related a (o .0)) (says-both (says-nodes (a .nodes) (a .entries)) (says-once (a .entries))))))
 
 pub says-stored : (s : Store) → 0 < s .allocator .chunkSize → s .chunkRoom ≤ 4096 → Says (Stored s) (stored s)
 unfolding stored

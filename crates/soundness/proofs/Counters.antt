@@ -1,22 +1,22 @@
 -- Counters by the rows of the nodes: each holds how many entries have the number of its row.
 -- Assumes nothing.
 use mathlib.Core.Path.{_≡_, refl, sym, ap, _∙_}
-use mathlib.Core.Bool.{Bool, false}
+use mathlib.Core.Bool.{Bool, true, false}
 use mathlib.Core.List.{List, []}
 use Prim.Native.Nat.{ℕ, _+_, _≤_, _<_}
 use native.Mathlib.Decide.{decLt}
 use native.Mathlib.Omega.{arith}
-use lib.Dec.{eqb}
+use lib.Dec.{eqb, ltb}
 use lib.ListN.{length, getD, set, replicate, getD-replicate, length-replicate, length-set}
 use lib.Seq.{getD-set-same, getD-set-other}
-use borrow.Author.Tests.{eqb-true, eqb-false}
-use Rattle.words.specs.Rules.{bit, times, Says, holds, fails}
+use borrow.Author.Tests.{eqb-false}
+use Rattle.words.specs.Rules.{both, bit, times, Says, holds, fails}
 use Rattle.words.specs.Tests.{tally}
 use Rattle.words.specs.Tables.{Asc}
 use Rattle.words.proofs.Order.{each-at}
 use Rattle.words.proofs.Places.{asc-at}
 use Rattle.words.proofs.FoundRows.{none-passes}
-use Rattle.words.proofs.Rules.{says-eqb, tally-turn, tally-le, tally-times}
+use Rattle.words.proofs.Rules.{says-true, says-both, says-ltb, says-eqb, tally-turn, tally-le, tally-times}
 use Rattle.words.proofs.Counting.{bit-same, bit-apart}
 use Rattle.types.specs.declared.NodeRecord.{NodeRecord}
 use Rattle.volume.specs.Rows.{Entry, readNode, readEntry}
@@ -30,7 +30,6 @@ use Rattle.tables.specs.Tables.{Ready, nodeAt, entryAt, foundNode}
 use Rattle.tables.proofs.ReadyVolume.{rooms, count-nodes, count-entries}
 use Rattle.tables.proofs.TableSearch.{node-found, node-absent}
 use Rattle.soundness.specs.NodeRules.{nodeGood}
-use Rattle.soundness.specs.Counters.{bumped}
 
 -- ---- the row that a search finds
 
@@ -54,22 +53,33 @@ module _ (n : ℕ) (rs : List NodeRecord) where
     row-missing e q = eqb-false (nodeAt rs k .node) n (each-at (λ r. eqb (r .node) n ≡ false) rs k (readNode []) (none-passes (λ r. eqb (r .node) n) rs (node-absent n rs a e)) b) (sym q)
 
     -- one more where the number is that of the row
-    bumped-at : (m : List ℕ) → length rs ≤ length m → getD (bumped (foundNode n rs) m) k 0 ≡ getD m k 0 + bit (eqb n (nodeAt rs k .node))
-    unfolding bumped
-    bumped-at m h = go (foundNode n rs) refl
+    bumped-at : (m : List ℕ) (i : ℕ) → At i ≡ foundNode n rs → length rs ≤ length m → getD (set m i (getD m i 0 + 1)) k 0 ≡ getD m k 0 + bit (eqb n (nodeAt rs k .node))
+    bumped-at m i e h = go (says-eqb k i)
       where
-        at-row : (i : ℕ) → At i ≡ foundNode n rs → {t : Bool} → Says (k ≡ i) t → getD (set m i (getD m i 0 + 1)) k 0 ≡ getD m k 0 + bit (eqb n (nodeAt rs k .node))
-        at-row i e (holds q) =
+        go : {t : Bool} → Says (k ≡ i) t → getD (set m i (getD m i 0 + 1)) k 0 ≡ getD m k 0 + bit (eqb n (nodeAt rs k .node))
+        go (holds q) =
             let f = row-there i e in
             let o : bit (eqb n (nodeAt rs i .node)) ≡ 1 = rw (f .1) (bit-same n) in
             rw q (getD-set-same m i (getD m i 0 + 1) 0 (omega arith) ∙ omega arith)
-        at-row i e (fails q) = omega (arith, getD-set-other m i k (getD m i 0 + 1) 0 q, bit-apart n (nodeAt rs k .node) (row-alone i e q))
+        go (fails q) = omega (arith, getD-set-other m i k (getD m i 0 + 1) 0 q, bit-apart n (nodeAt rs k .node) (row-alone i e q))
 
-        go : (f : Found) → f ≡ foundNode n rs → getD (bumped f m) k 0 ≡ getD m k 0 + bit (eqb n (nodeAt rs k .node))
-        go (At i) e = at-row i e (says-eqb k i)
-        go Nothing e = omega (arith, bit-apart n (nodeAt rs k .node) (row-missing e))
+-- a row that has the number is the one found
+module _ (n : ℕ) (rs : List NodeRecord) (a : Asc nodeBefore rs) (k : ℕ) where
+  there-found : k < length rs → nodeAt rs k .node ≡ n → At k ≡ foundNode n rs
+  there-found b e = go (foundNode n rs) refl
+    where
+      at-row : (i : ℕ) → At i ≡ foundNode n rs → {t : Bool} → Says (k ≡ i) t → At k ≡ foundNode n rs
+      at-row i f (holds q) = rw q f
+      at-row i f (fails q) = absurd (row-alone n rs a k b i f q (sym e))
 
--- ---- one entry counted
+      go : (f : Found) → f ≡ foundNode n rs → At k ≡ foundNode n rs
+      go (At i) f = at-row i f (says-eqb k i)
+      go Nothing f = absurd (row-missing n rs a k b f (sym e))
+
+  pub near-found : {r : Bool} → r ≡ both (ltb k (length rs)) (eqb (nodeAt rs k .node) n) → r ≡ true → At k ≡ foundNode n rs
+  near-found h t = let w = says-true (says-both (says-ltb k (length rs)) (says-eqb (nodeAt rs k .node) n)) (sym h ∙ t) in there-found (w .0) (w .1)
+
+-- ---- as many counters as rows
 
 module _ (l : List ℕ) (y : Layout) (r : Ready l y) where
   rows-low : length (shown l .names .nodes) ≤ 4096
@@ -81,20 +91,7 @@ module _ (l : List ℕ) (y : Layout) (r : Ready l y) where
   pub row-counter : (n i : ℕ) → At i ≡ foundNode n (shown l .names .nodes) → i < 4096
   row-counter n i e = omega (arith, row-there n (shown l .names .nodes) i e .0, rows-low)
 
-pub bumped-row : (f : Found) (m : List ℕ) (i : ℕ) → At i ≡ f → set m i (getD m i 0 + 1) ≡ bumped f m
-unfolding bumped
-bumped-row f m i e = rw (← e)
-
-pub bumped-none : (f : Found) (m : List ℕ) → Nothing ≡ f → m ≡ bumped f m
-unfolding bumped
-bumped-none f m e = rw (← e)
-
 -- ---- a pass over the entries
-
-bumped-length : (f : Found) (m : List ℕ) → length (bumped f m) ≡ length m
-unfolding bumped
-bumped-length (At i) m = length-set m i (getD m i 0 + 1)
-bumped-length Nothing m = refl
 
 -- key is what the entries are counted by
 module _ (key : Entry → ℕ) (l : List ℕ) where
@@ -116,11 +113,11 @@ module _ (key : Entry → ℕ) (l : List ℕ) where
       pub counted-low : (k : ℕ) → k < length (shown l .names .nodes) → getD m k 0 ≤ 4096
       counted-low k b = omega (arith, c .0, c .2 k b, tally-le (λ j. hasNumber k (entryAt (shown l .names .entries) j)) i, entries-low l y r)
 
-      pub counted-turn : Asc nodeBefore (shown l .names .nodes) → i < length (shown l .names .entries) → {x : ℕ} {t : List ℕ} → x ≡ key (entryAt (shown l .names .entries) i) → t ≡ bumped (foundNode x (shown l .names .nodes)) m → Counted (i + 1) t
-      counted-turn a h {x} e q = (
+      pub counted-turn : Asc nodeBefore (shown l .names .nodes) → i < length (shown l .names .entries) → {x j : ℕ} {t : List ℕ} → x ≡ key (entryAt (shown l .names .entries) i) → At j ≡ foundNode x (shown l .names .nodes) → t ≡ set m j (getD m j 0 + 1) → Counted (i + 1) t
+      counted-turn a h {x} {j} e f q = (
         omega arith,
-        ap length q ∙ bumped-length (foundNode x (shown l .names .nodes)) m ∙ c .1,
-        λ k b. rw q (bumped-at x (shown l .names .nodes) a k b m (omega (arith, c .1, rows-low l y r)) ∙ tally-turn (λ j. hasNumber k (entryAt (shown l .names .entries) j)) i (c .2 k b) (ap (λ (n : ℕ). bit (eqb n (nodeAt (shown l .names .nodes) k .node))) e)),
+        ap length q ∙ length-set m j (getD m j 0 + 1) ∙ c .1,
+        λ k b. rw q (bumped-at x (shown l .names .nodes) a k b m j f (omega (arith, c .1, rows-low l y r)) ∙ tally-turn (λ j. hasNumber k (entryAt (shown l .names .entries) j)) i (c .2 k b) (ap (λ (n : ℕ). bit (eqb n (nodeAt (shown l .names .nodes) k .node))) e)),
       )
 
       pub counted-end : i ≡ length (shown l .names .entries) → (length m ≡ 4096) × ((k : ℕ) → k < length (shown l .names .nodes) → (getD m k 0 ≡ times (hasNumber k) (shown l .names .entries)) × (getD m k 0 ≤ 4096))

@@ -1,7 +1,7 @@
 -- What the tests of rows mean.
 -- Assumes nothing.
 use mathlib.Core.Path.{_≡_, refl, ap, _∙_}
-use mathlib.Core.Bool.{Bool, true, false, not, false≢true}
+use mathlib.Core.Bool.{Bool, true, false, false≢true}
 use mathlib.Core.List.{List, [], _∷_}
 use mathlib.Core.Option.{some}
 use Prim.Native.Nat.{ℕ, _≤_, _<_}
@@ -9,12 +9,13 @@ use native.Mathlib.Omega.{arith}
 use lib.Dec.{eqb, ltb, leb}
 use lib.ListN.{length}
 use borrow.Author.Tests.{ne-eqb, le-leb}
-use Rattle.words.specs.Rules.{both, pick, upto, Says, fails}
+use Rattle.words.specs.Rules.{both, pick, upto, times, Says, fails}
 use Rattle.words.specs.Tables.{Each, Asc, find}
 use Rattle.words.proofs.Order.{each-map}
+use Rattle.words.proofs.Middle.{each-pair}
 use Rattle.words.proofs.Places.{each-places, asc-places}
 use Rattle.words.proofs.Counting.{none-pass, pass-none}
-use Rattle.words.proofs.Rules.{says-map, says-leb, says-ltb, says-itself, says-opposite}
+use Rattle.words.proofs.Rules.{says-map, says-both, says-leb, says-ltb, says-itself, says-opposite}
 use Rattle.words.proofs.Search.{find-none}
 use Rattle.types.specs.Nodes.{isDirectory}
 use Rattle.types.proofs.Nodes.{says-directory}
@@ -27,7 +28,7 @@ use Rattle.volume.specs.Search.{pairBefore}
 use Rattle.volume.specs.Sound.{node, DirectoryThere, naming, nodeBefore, entryBefore, chunkBefore}
 use Rattle.tables.specs.Tables.{nodeAt}
 use Rattle.volume.proofs.PairOrder.{says-pair, pair-trans}
-use Rattle.soundness.specs.OrderRules.{nodesAscend, entriesAscend, chunksAscend, indexed, nodesBelow, rooted, rootUnnamed, namesAllowed}
+use Rattle.soundness.specs.OrderRules.{nodesAscend, entriesAscend, chunksAscend, nodesBelow, rooted, entryNumbered, entriesNumbered}
 
 -- ---- orders
 
@@ -49,25 +50,11 @@ says-chunk-order cs =
 
 -- ---- what holds of each row
 
-pub says-indexed : (es : List Entry) → Says (Each (λ e. 1 ≤ e .index) es) (indexed es)
-unfolding indexed
-says-indexed es = each-places (λ e. 1 ≤ e .index) (readEntry []) (λ e. leb 1 (e .index)) (λ e. says-leb 1 (e .index)) es
-
 pub says-below : (next : ℕ) (rs : List NodeRecord) → Says (Each (λ r. r .node < next) rs) (nodesBelow next rs)
 unfolding nodesBelow
 says-below next rs = each-places (λ r. r .node < next) (readNode []) (λ r. ltb (r .node) next) (λ r. says-ltb (r .node) next) rs
 
-pub says-names : (es : List Entry) → Says (Each (λ e. nameAllowed (e .name) ≡ true) es) (namesAllowed es)
-unfolding namesAllowed
-says-names es = each-places (λ e. nameAllowed (e .name) ≡ true) (readEntry []) (λ e. nameAllowed (e .name)) (λ e. says-itself (nameAllowed (e .name))) es
-
 -- ---- node 0
-
-pub says-unnamed : (es : List Entry) → Says (naming 0 es ≡ 0) (rootUnnamed es)
-unfolding rootUnnamed naming
-says-unnamed es =
-    says-map (none-pass (λ e. eqb (e .node) 0) es) (pass-none (λ e. eqb (e .node) 0) es)
-    (each-places (λ e. eqb (e .node) 0 ≡ false) (readEntry []) (λ e. not (eqb (e .node) 0)) (λ e. says-opposite (eqb (e .node) 0)) es)
 
 -- behind a row of an ascending table no row is node 0
 not-behind : (r : NodeRecord) (rs : List NodeRecord) → Each (nodeBefore r) rs → Each (λ s. eqb (s .node) 0 ≡ false) rs
@@ -86,6 +73,31 @@ found-root (r ∷ rs) a = go (leb 1 (length (r ∷ rs))) (le-leb 1 (length (r �
 pub says-root : (a : Names) → Asc nodeBefore (a .nodes) → Says (DirectoryThere (node 0 a)) (rooted (a .nodes))
 unfolding node
 says-root a o = found-root (a .nodes) o
+
+-- ---- entries
+
+-- what is asked of each
+abbrev pub Numbered : Entry → Type 0
+Numbered e = (1 ≤ e .index) × (eqb (e .node) 0 ≡ false) × (nameAllowed (e .name) ≡ true)
+
+says-one : (e : Entry) → Says (Numbered e) (entryNumbered e)
+unfolding entryNumbered
+says-one e =
+    says-map (λ p. (p .0, p .1 .0, p .1 .1)) (λ n. (n .0, (n .1, n .2)))
+    (says-both (says-leb 1 (e .index)) (says-both (says-opposite (eqb (e .node) 0)) (says-itself (nameAllowed (e .name)))))
+
+pub says-numbered : (es : List Entry) → Says (Each (λ e. 1 ≤ e .index) es × (naming 0 es ≡ 0) × Each (λ e. nameAllowed (e .name) ≡ true) es) (entriesNumbered es)
+unfolding entriesNumbered naming
+says-numbered es = says-map apart joined (each-places Numbered (readEntry []) entryNumbered says-one es)
+  where
+    apart : Each Numbered es → Each (λ e. 1 ≤ e .index) es × (times (λ e. eqb (e .node) 0) es ≡ 0) × Each (λ e. nameAllowed (e .name) ≡ true) es
+    apart h = (each-map Numbered _ (λ e k. k .0) es h, none-pass (λ e. eqb (e .node) 0) es (each-map Numbered _ (λ e k. k .1) es h), each-map Numbered _ (λ e k. k .2) es h)
+
+    joined : Each (λ e. 1 ≤ e .index) es × (times (λ e. eqb (e .node) 0) es ≡ 0) × Each (λ e. nameAllowed (e .name) ≡ true) es → Each Numbered es
+    joined h =
+        each-map _ Numbered (λ e k. (k .0, k .1 .0, k .1 .1)) es
+        (each-pair (λ e. 1 ≤ e .index) (λ e. (eqb (e .node) 0 ≡ false) × (nameAllowed (e .name) ≡ true)) es (h .0)
+        (each-pair (λ e. eqb (e .node) 0 ≡ false) (λ e. nameAllowed (e .name) ≡ true) es (pass-none (λ e. eqb (e .node) 0) es (h .1)) (h .2)))
 
 -- ---- for the code: the numbers that it read
 

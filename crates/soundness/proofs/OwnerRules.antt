@@ -1,7 +1,7 @@
 -- What the tests of chunk rows mean, and what their code finds.
 -- Assumes nothing.
-use mathlib.Core.Path.{_≡_, refl, ap, _∙_}
-use mathlib.Core.Bool.{Bool, false}
+use mathlib.Core.Path.{_≡_, refl, sym, ap, _∙_}
+use mathlib.Core.Bool.{Bool, true, false, not}
 use mathlib.Core.List.{List, []}
 use Prim.Native.Nat.{ℕ, _+_, _-_, _*_, _/_, _%_, _≤_, _<_}
 use native.Mathlib.Nat.{le-div-iff-mul-le}
@@ -9,6 +9,7 @@ use native.Mathlib.Omega.{arith}
 use lib.Dec.{eqb}
 use lib.ListN.{length, take, drop, getD}
 use lib.Seq.{drop-drop}
+use borrow.Author.Tests.{not-true, not-false}
 use Rattle.words.specs.Bytes.{part}
 use Rattle.words.specs.Rules.{either, Says, holds, fails}
 use Rattle.words.specs.Tests.{allZero}
@@ -36,6 +37,7 @@ use Rattle.tables.specs.declared.Found.the-variants.{At, Nothing}
 use Rattle.tables.proofs.ReadyVolume.{rooms, count-bytes}
 use Rattle.tables.proofs.LentAllocator.{size-bounds}
 use Rattle.tables.proofs.TableSearch.{node-found, node-absent}
+use Rattle.soundness.specs.EntryRules.{isFound}
 use Rattle.soundness.specs.OwnerRules.{tailZero, ownedBy, ownedWhere, rowOwned, chunksOwned}
 
 -- ---- what the code finds
@@ -62,13 +64,22 @@ module _ (l : List ℕ) (y : Layout) (r : Ready l y) where
 
 -- a row, and where the row of its node was found
 module _ (a : Names) (s : Store) (i : ℕ) {c : ChunkRow} {f : Found} (p : c ≡ chunkAt (s .chunks) i) (q : f ≡ foundNode (c .node) (a .nodes)) where
-  pub no-owner : f ≡ Nothing → false ≡ rowOwned a s i
-  unfolding rowOwned ownedWhere
+  pub no-owner : f ≡ Nothing → isFound Nothing ≡ rowOwned a s i
+  unfolding rowOwned ownedWhere isFound
   no-owner e = rw (← p, ← q, e)
 
   pub by-owner : {k z : ℕ} {r : NodeRecord} {b : Bool} → f ≡ At k → r ≡ nodeAt (a .nodes) k → z ≡ s .allocator .chunkSize → b ≡ ownedBy z (s .bytes) c r → b ≡ rowOwned a s i
   unfolding rowOwned ownedWhere
   by-owner e k z h = h ∙ rw (k, z, ← p, ← q, e)
+
+-- an owner that can have the chunk, or cannot
+pub is-owner : (k : ℕ) {t r : Bool} → t ≡ r → not t ≡ false → isFound (At k) ≡ r
+unfolding isFound
+is-owner k {t} e h = sym (not-false t h) ∙ e
+
+pub not-owner : {t r : Bool} → t ≡ r → not t ≡ true → isFound Nothing ≡ r
+unfolding isFound
+not-owner {t} e h = sym (not-true t h) ∙ e
 
 -- ---- what the tests mean
 

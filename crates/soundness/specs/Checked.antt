@@ -11,8 +11,8 @@ use Rattle.volume.specs.declared.Place.{Place}
 use Rattle.volume.specs.Volume.{Names, Store, Volume, shown}
 use Rattle.volume.specs.Layouts.{layoutIn, placeIf}
 use Rattle.soundness.specs.FrameRules.{framed}
-use Rattle.soundness.specs.OrderRules.{nodesAscend, entriesAscend, chunksAscend, indexed, nodesBelow, rooted, rootUnnamed, namesAllowed}
-use Rattle.soundness.specs.EntryRules.{parentsGood, targetsFound, namesOnce}
+use Rattle.soundness.specs.OrderRules.{nodesAscend, entriesAscend, chunksAscend, nodesBelow, rooted, entriesNumbered}
+use Rattle.soundness.specs.EntryRules.{entriesRelated, namesOnce}
 use Rattle.soundness.specs.NodeRules.{nodesGood}
 use Rattle.soundness.specs.PointerRules.{nextFits, pointersGood}
 use Rattle.soundness.specs.OwnerRules.{chunksOwned}
@@ -23,13 +23,13 @@ use Rattle.soundness.specs.OwnerRules.{chunksOwned}
 unfoldable pub ordered : Names → Bool
 ordered a = both (nodesAscend (a .nodes)) (entriesAscend (a .entries))
 
--- an entry's index, next node, node 0, names
+-- next node, node 0, an entry's index, node and name
 unfoldable pub numbered : Names → Bool
-numbered a = both (indexed (a .entries)) (both (nodesBelow (a .nextNode) (a .nodes)) (both (rooted (a .nodes)) (both (rootUnnamed (a .entries)) (namesAllowed (a .entries)))))
+numbered a = both (nodesBelow (a .nextNode) (a .nodes)) (both (rooted (a .nodes)) (entriesNumbered (a .entries)))
 
--- parents and targets, names twice, links and sizes
+-- parents and targets, links and sizes, names twice
 unfoldable pub related : Names → Bool
-related a = both (parentsGood (a .nodes) (a .entries)) (both (targetsFound (a .nodes) (a .entries)) (both (namesOnce (a .entries)) (nodesGood (a .nodes) (a .entries))))
+related a = both (entriesRelated (a .nodes) (a .entries)) (both (nodesGood (a .nodes) (a .entries)) (namesOnce (a .entries)))
 
 unfoldable pub named : Names → Bool
 named a = both (ordered a) (both (numbered a) (related a))

@@ -1,12 +1,14 @@
--- Inner: counters by the rows of the nodes: what one more entry makes of them.
+-- Inner: counters by the rows of the nodes: of the entries that name each, or of those that each holds.
 -- Assumes nothing.
-use Prim.Native.Nat.{ℕ, _+_}
+use mathlib.Core.Path.{_≡_}
+use Prim.Native.Nat.{ℕ, _≤_, _<_}
 use mathlib.Core.List.{List}
-use lib.ListN.{getD, set}
-use Rattle.tables.specs.declared.Found.{Found}
-use Rattle.tables.specs.declared.Found.the-variants.{At, Nothing}
+use lib.ListN.{length, getD}
+use Rattle.types.specs.Sizes.{mostRows}
+use Rattle.volume.specs.Rows.{Entry}
+use Rattle.volume.specs.Volume.{Names}
+use Rattle.tables.specs.Tables.{nodeAt}
 
--- the counter of the row that was found, one more
-unfoldable pub bumped : Found → List ℕ → List ℕ
-bumped (At i) m = set m i (getD m i 0 + 1)
-bumped Nothing m = m
+-- as many counters as a table may have rows; that of a row tells how many entries its number has
+abbrev pub Counts : (ℕ → List Entry → ℕ) → Names → List ℕ → Type 0
+Counts many a m = (length m ≡ mostRows) × ((k : ℕ) → k < length (a .nodes) → (getD m k 0 ≡ many (nodeAt (a .nodes) k .node) (a .entries)) × (getD m k 0 ≤ 4096))

@@ -23,11 +23,11 @@ foundDirectory rs (At i) = isDirectory (nodeAt rs i .kind)
 foundDirectory rs Nothing = false
 
 -- every entry's parent is a directory and its node has a row
-unfoldable pub parentsGood : List NodeRecord → List Entry → Bool
-parentsGood rs es = upto (length es) (λ i. foundDirectory rs (foundNode (entryAt es i .parent) rs))
+unfoldable pub entryRelated : List NodeRecord → Entry → Bool
+entryRelated rs e = both (foundDirectory rs (foundNode (e .parent) rs)) (isFound (foundNode (e .node) rs))
 
-unfoldable pub targetsFound : List NodeRecord → List Entry → Bool
-targetsFound rs es = upto (length es) (λ i. isFound (foundNode (entryAt es i .node) rs))
+unfoldable pub entriesRelated : List NodeRecord → List Entry → Bool
+entriesRelated rs es = upto (length es) (λ i. entryRelated rs (entryAt es i))
 
 -- two entries have one name in one directory
 unfoldable pub sameName : Entry → Entry → Bool

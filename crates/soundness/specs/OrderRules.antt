@@ -24,10 +24,6 @@ entriesAscend es = upto (length es - 1) (λ i. pairBefore (entryAt es i .parent)
 unfoldable pub chunksAscend : List ChunkRow → Bool
 chunksAscend cs = upto (length cs - 1) (λ i. pairBefore (chunkAt cs i .node) (chunkAt cs i .index) (chunkAt cs (i + 1) .node) (chunkAt cs (i + 1) .index))
 
--- an entry's index is at least 1
-unfoldable pub indexed : List Entry → Bool
-indexed es = upto (length es) (λ i. leb 1 (entryAt es i .index))
-
 -- next node exceeds every node
 unfoldable pub nodesBelow : ℕ → List NodeRecord → Bool
 nodesBelow next rs = upto (length rs) (λ i. ltb (nodeAt rs i .node) next)
@@ -36,10 +32,9 @@ nodesBelow next rs = upto (length rs) (λ i. ltb (nodeAt rs i .node) next)
 unfoldable pub rooted : List NodeRecord → Bool
 rooted rs = both (leb 1 (length rs)) (both (eqb (nodeAt rs 0 .node) 0) (isDirectory (nodeAt rs 0 .kind)))
 
--- no entry names node 0
-unfoldable pub rootUnnamed : List Entry → Bool
-rootUnnamed es = upto (length es) (λ i. not (eqb (entryAt es i .node) 0))
+-- an entry's index is at least 1, it does not name node 0, and its name has 1 to 255 bytes, no slash, and is neither `.` nor `..`
+unfoldable pub entryNumbered : Entry → Bool
+entryNumbered e = both (leb 1 (e .index)) (both (not (eqb (e .node) 0)) (nameAllowed (e .name)))
 
--- names have 1 to 255 bytes, no slash, and are neither `.` nor `..`
-unfoldable pub namesAllowed : List Entry → Bool
-namesAllowed es = upto (length es) (λ i. nameAllowed (entryAt es i .name))
+unfoldable pub entriesNumbered : List Entry → Bool
+entriesNumbered es = upto (length es) (λ i. entryNumbered (entryAt es i))

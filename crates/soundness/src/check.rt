@@ -1,18 +1,16 @@
 // The whole check: the frame, then nodes and entries, the chunk store, and the owners of the chunks; each in the scope's order.
-use crate::entries::parents_good;
-use crate::entries::targets_found;
+use crate::entries::relate_entries;
 use crate::frame::is_formed;
 use crate::frame::read_header;
 use crate::names::names_once;
+use crate::nodes::COUNTERS;
 use crate::nodes::nodes_good;
 use crate::order::chunks_ascend;
 use crate::order::entries_ascend;
-use crate::order::entries_indexed;
+use crate::order::entries_numbered;
 use crate::order::is_rooted;
-use crate::order::names_allowed;
 use crate::order::nodes_ascend;
 use crate::order::nodes_below_next;
-use crate::order::root_unnamed;
 use crate::owners::is_owned;
 use crate::pointers::next_fits;
 use crate::pointers::pointers_good;
@@ -21,7 +19,7 @@ use volume::Place;
 ghost use mathlib.Core.Path.{_≡_};
 ghost use Rattle.words.specs.Tables.{Asc};
 ghost use Rattle.volume.specs.Volume.{shown};
-ghost use Rattle.volume.specs.Sound.{nodeBefore, entryBefore};
+ghost use Rattle.volume.specs.Sound.{nodeBefore};
 ghost use Rattle.tables.specs.Tables.{Ready};
 ghost use Rattle.soundness.specs.Checked.{ordered, numbered, related, named, stored, good, placeIfSound};
 
@@ -36,41 +34,34 @@ fn is_ordered(volume: &[u8], layout: Layout) -> bool
     entries_ascend(volume, layout)
 }
 
-// Whether the entries' indexes, the next node, node 0 and the names are as they must be.
+// Whether the next node, node 0, and the indexes, nodes and names of entries are as they must be.
 fn is_numbered(volume: &[u8], layout: Layout) -> bool
     requires { ⌜ Ready (now volume) layout ⌝ }
     ensures { λ r. ⌜ r ≡ numbered (shown (now (volume .entry)) .names) ⌝ }
 {
-    if !entries_indexed(volume, layout) {
-        return false;
-    }
     if !nodes_below_next(volume, layout) {
         return false;
     }
     if !is_rooted(volume, layout) {
         return false;
     }
-    if !root_unnamed(volume, layout) {
-        return false;
-    }
-    names_allowed(volume, layout)
+    entries_numbered(volume, layout)
 }
 
-// Whether entries and the nodes they name agree. Both tables have to ascend: their rows are searched.
+// Whether entries and the nodes they name agree. Node rows have to ascend: they are searched.
 fn is_related(volume: &[u8], layout: Layout) -> bool
-    requires { ⌜ Ready (now volume) layout × Asc nodeBefore (shown (now volume) .names .nodes) × Asc entryBefore (shown (now volume) .names .entries) ⌝ }
+    requires { ⌜ Ready (now volume) layout × Asc nodeBefore (shown (now volume) .names .nodes) ⌝ }
     ensures { λ r. ⌜ r ≡ related (shown (now (volume .entry)) .names) ⌝ }
 {
-    if !parents_good(volume, layout) {
+    let mut named = [0u16; COUNTERS];
+    let mut held = [0u16; COUNTERS];
+    if !relate_entries(volume, layout, &mut named, &mut held) {
         return false;
     }
-    if !targets_found(volume, layout) {
+    if !nodes_good(volume, layout, &named, &held) {
         return false;
     }
-    if !names_once(volume, layout) {
-        return false;
-    }
-    nodes_good(volume, layout)
+    names_once(volume, layout)
 }
 
 // Whether all rules of nodes and entries hold.

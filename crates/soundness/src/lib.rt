@@ -4,6 +4,7 @@ mod check;
 mod entries;
 mod frame;
 mod names;
+mod nearby;
 mod nodes;
 mod order;
 mod owners;

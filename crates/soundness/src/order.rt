@@ -4,12 +4,11 @@ ghost use mathlib.Core.Path.{_≡_};
 ghost use mathlib.Core.Bool.{not};
 ghost use Prim.Native.Nat.{_+_, _<_};
 ghost use lib.ListN.{length};
-ghost use lib.Dec.{eqb, leb, ltb};
-ghost use Rattle.paths.specs.Path.{nameAllowed};
+ghost use lib.Dec.{ltb};
 ghost use Rattle.volume.specs.Search.{pairBefore};
 ghost use Rattle.volume.specs.Volume.{shown};
 ghost use Rattle.tables.specs.Tables.{Ready, nodeAt, entryAt, chunkAt};
-ghost use Rattle.soundness.specs.OrderRules.{nodesAscend, entriesAscend, chunksAscend, indexed, nodesBelow, rooted, rootUnnamed, namesAllowed};
+ghost use Rattle.soundness.specs.OrderRules.{nodesAscend, entriesAscend, chunksAscend, entryNumbered, entriesNumbered, nodesBelow, rooted};
 
 // The root's number.
 const ROOT: u64 = 0;
@@ -99,30 +98,6 @@ pub fn chunks_ascend(volume: &[u8], layout: Layout) -> bool
     true
 }
 
-// Whether the index of the entry in row i is at least 1.
-fn entry_indexed(volume: &[u8], layout: Layout, i: usize) -> bool
-    requires { ⌜ Ready (now volume) layout × (i < length (shown (now volume) .names .entries)) ⌝ }
-    ensures { λ r. ⌜ r ≡ leb 1 (entryAt (shown (now (volume .entry)) .names .entries) i .index) ⌝ }
-{
-    LEAST_INDEX <= tables::entry_index(volume, layout, i)
-}
-
-// Whether every entry's index is at least 1.
-pub fn entries_indexed(volume: &[u8], layout: Layout) -> bool
-    requires { ⌜ Ready (now volume) layout ⌝ }
-    ensures { λ r. ⌜ r ≡ indexed (shown (now (volume .entry)) .names .entries) ⌝ }
-{
-    let used = tables::entries_used(volume, layout);
-    let mut i = 0;
-    while i < used {
-        if !entry_indexed(volume, layout, i) {
-            return false;
-        }
-        i += 1;
-    }
-    true
-}
-
 // Whether the number of the node in row i is below next node.
 fn node_below(volume: &[u8], layout: Layout, i: usize, next: u64) -> bool
     requires { ⌜ Ready (now volume) layout × (i < length (shown (now volume) .names .nodes)) ⌝ }
@@ -164,47 +139,29 @@ pub fn is_rooted(volume: &[u8], layout: Layout) -> bool
     types::is_directory(kind)
 }
 
-// Whether the entry in row i does not name the root.
-fn entry_unrooted(volume: &[u8], layout: Layout, i: usize) -> bool
+// Whether the index, the node and the name of the entry in row i are as they must be.
+fn entry_numbered(volume: &[u8], layout: Layout, i: usize) -> bool
     requires { ⌜ Ready (now volume) layout × (i < length (shown (now volume) .names .entries)) ⌝ }
-    ensures { λ r. ⌜ r ≡ not (eqb (entryAt (shown (now (volume .entry)) .names .entries) i .node) 0) ⌝ }
+    ensures { λ r. ⌜ r ≡ entryNumbered (entryAt (shown (now (volume .entry)) .names .entries) i) ⌝ }
 {
-    tables::entry_node(volume, layout, i) != ROOT
-}
-
-// Whether no entry names the root.
-pub fn root_unnamed(volume: &[u8], layout: Layout) -> bool
-    requires { ⌜ Ready (now volume) layout ⌝ }
-    ensures { λ r. ⌜ r ≡ rootUnnamed (shown (now (volume .entry)) .names .entries) ⌝ }
-{
-    let used = tables::entries_used(volume, layout);
-    let mut i = 0;
-    while i < used {
-        if !entry_unrooted(volume, layout, i) {
-            return false;
-        }
-        i += 1;
+    if tables::entry_index(volume, layout, i) < LEAST_INDEX {
+        return false;
     }
-    true
-}
-
-// Whether the name of the entry in row i is allowed.
-fn entry_allowed(volume: &[u8], layout: Layout, i: usize) -> bool
-    requires { ⌜ Ready (now volume) layout × (i < length (shown (now volume) .names .entries)) ⌝ }
-    ensures { λ r. ⌜ r ≡ nameAllowed (entryAt (shown (now (volume .entry)) .names .entries) i .name) ⌝ }
-{
+    if tables::entry_node(volume, layout, i) == ROOT {
+        return false;
+    }
     paths::name_allowed(tables::entry_name(volume, layout, i))
 }
 
-// Whether every entry's name is allowed.
-pub fn names_allowed(volume: &[u8], layout: Layout) -> bool
+// Whether every entry has an index from 1 on, does not name the root, and has a name that is allowed.
+pub fn entries_numbered(volume: &[u8], layout: Layout) -> bool
     requires { ⌜ Ready (now volume) layout ⌝ }
-    ensures { λ r. ⌜ r ≡ namesAllowed (shown (now (volume .entry)) .names .entries) ⌝ }
+    ensures { λ r. ⌜ r ≡ entriesNumbered (shown (now (volume .entry)) .names .entries) ⌝ }
 {
     let used = tables::entries_used(volume, layout);
     let mut i = 0;
     while i < used {
-        if !entry_allowed(volume, layout, i) {
+        if !entry_numbered(volume, layout, i) {
             return false;
         }
         i += 1;

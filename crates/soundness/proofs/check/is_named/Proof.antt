@@ -24,7 +24,7 @@ returns-2 c =
 
 is-related-requires : tie.Need-is-related-requires
 is-related-requires c κs =
-    (c .before .before .before .before .before .pre, (says-true (says-ordered (shown (now (c .before .before .before .before .before .args .volume)) .names)) (call-yes (c .before .before .before .is-ordered .ensures) (c .before .before .if1 .left))) .0, (says-true (says-ordered (shown (now (c .before .before .before .before .before .args .volume)) .names)) (call-yes (c .before .before .before .is-ordered .ensures) (c .before .before .if1 .left))) .1)
+    (c .before .before .before .before .before .pre, (says-true (says-ordered (shown (now (c .before .before .before .before .before .args .volume)) .names)) (call-yes (c .before .before .before .is-ordered .ensures) (c .before .before .if1 .left))) .0)
 
 returns-3 : tie.Need-returns-3
 unfolding named

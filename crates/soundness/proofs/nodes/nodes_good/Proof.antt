@@ -22,51 +22,45 @@ Inv-loop volume layout named held used i₀ i =
 abbrev μ-loop : tie.MeasureT-loop
 μ-loop volume layout named held used i₀ i = used - i
 
-count-named-requires : tie.Need-count-named-requires Inv-loop μ-loop
-count-named-requires c κs = search needs
-
-count-held-requires : tie.Need-count-held-requires Inv-loop μ-loop
-count-held-requires c κs = search needs
-
 nodes-used-requires : tie.Need-nodes-used-requires Inv-loop μ-loop
 nodes-used-requires c κs = search needs
 
 loop-holds : tie.Need-loop-holds Inv-loop μ-loop
 loop-holds c =
-    (search needs, upto-start (λ (j : ℕ). nodeGood (naming (nodeAt (shown (now (c .before .before .before .before .args .volume)) .names .nodes) j .node) (shown (now (c .before .before .before .before .args .volume)) .names .entries)) (entriesOf (nodeAt (shown (now (c .before .before .before .before .args .volume)) .names .nodes) j .node) (shown (now (c .before .before .before .before .args .volume)) .names .entries)) (nodeAt (shown (now (c .before .before .before .before .args .volume)) .names .nodes) j)))
+    (search needs, upto-start (λ (j : ℕ). nodeGood (naming (nodeAt (shown (now (c .before .before .args .volume)) .names .nodes) j .node) (shown (now (c .before .before .args .volume)) .names .entries)) (entriesOf (nodeAt (shown (now (c .before .before .args .volume)) .names .nodes) j .node) (shown (now (c .before .before .args .volume)) .names .entries)) (nodeAt (shown (now (c .before .before .args .volume)) .names .nodes) j)))
 
 node-row-requires : tie.Need-node-row-requires Inv-loop μ-loop
 node-row-requires c κs =
-    (c .before .before .before .before .before .before .pre .0, (omega (arith, c .before .before .nodes-used .ensures .0)))
+    (c .before .before .before .before .pre .0, (omega (arith, c .before .before .nodes-used .ensures .0)))
 
 mul-node-good : tie.Need-mul-node-good Inv-loop μ-loop
 mul-node-good c = omega (arith, c .before .before .before .nodes-used .ensures .1)
 
-array-read-node-good : tie.Need-array-read-node-good Inv-loop μ-loop
-array-read-node-good c = omega (arith, c .before .before .before .nodes-used .ensures .1)
+element-copy-out-node-good : tie.Need-element-copy-out-node-good Inv-loop μ-loop
+element-copy-out-node-good c = omega (arith, c .before .before .before .nodes-used .ensures .1)
 
 cast-node-good : tie.Need-cast-node-good Inv-loop μ-loop
 cast-node-good c =
-    omega (arith, c .before .before .before .before .before .count-named .ensures .1 (c .before .before .loop .i) (omega (arith, c .before .before .before .nodes-used .ensures .0)) .1)
+    omega (arith, c .before .before .before .before .before .before .pre .1 .1 (c .before .before .before .loop .i) (omega (arith, c .before .before .before .before .nodes-used .ensures .0)) .1)
 
 mul-node-good-2 : tie.Need-mul-node-good-2 Inv-loop μ-loop
-mul-node-good-2 c = omega (arith, c .before .before .before .nodes-used .ensures .1)
+mul-node-good-2 c = omega (arith, c .before .before .before .before .nodes-used .ensures .1)
 
-array-read-node-good-2 : tie.Need-array-read-node-good-2 Inv-loop μ-loop
-array-read-node-good-2 c = omega (arith, c .before .before .before .nodes-used .ensures .1)
+element-copy-out-node-good-2 : tie.Need-element-copy-out-node-good-2 Inv-loop μ-loop
+element-copy-out-node-good-2 c = omega (arith, c .before .before .before .before .nodes-used .ensures .1)
 
 cast-node-good-2 : tie.Need-cast-node-good-2 Inv-loop μ-loop
 cast-node-good-2 c =
-    omega (arith, c .before .before .before .before .count-held .ensures .1 (c .before .before .loop .i) (omega (arith, c .before .before .before .nodes-used .ensures .0)) .1)
+    omega (arith, c .before .before .before .before .before .before .before .pre .2 .1 (c .before .before .before .before .loop .i) (omega (arith, c .before .before .before .before .before .nodes-used .ensures .0)) .1)
 
 node-good-requires : tie.Need-node-good-requires Inv-loop μ-loop
 node-good-requires c κs =
-    c .before .before .before .before .before .count-named .ensures .1 (c .before .before .loop .i) (omega (arith, c .before .before .before .nodes-used .ensures .0)) .1
+    c .before .before .before .before .before .before .before .pre .1 .1 (c .before .before .before .before .loop .i) (omega (arith, c .before .before .before .before .before .nodes-used .ensures .0)) .1
 
 returns : tie.Need-returns Inv-loop μ-loop
 unfolding nodesGood
 returns c =
-    upto-fail (λ (j : ℕ). nodeGood (naming (nodeAt (shown (now (c .before .before .before .before .before .before .before .before .before .args .volume)) .names .nodes) j .node) (shown (now (c .before .before .before .before .before .before .before .before .before .args .volume)) .names .entries)) (entriesOf (nodeAt (shown (now (c .before .before .before .before .before .before .before .before .before .args .volume)) .names .nodes) j .node) (shown (now (c .before .before .before .before .before .before .before .before .before .args .volume)) .names .entries)) (nodeAt (shown (now (c .before .before .before .before .before .before .before .before .before .args .volume)) .names .nodes) j)) (length (shown (now (c .before .before .before .before .before .before .before .before .before .args .volume)) .names .nodes)) (c .before .before .before .before .loop .i) (omega (arith, c .before .before .before .before .before .nodes-used .ensures .0)) (call-no (good-as (c .before .node-good .ensures) (c .before .before .before .before .before .before .before .count-named .ensures .1 (c .before .before .before .before .loop .i) (omega (arith, c .before .before .before .before .before .nodes-used .ensures .0)) .0) (c .before .before .before .before .before .before .count-held .ensures .1 (c .before .before .before .before .loop .i) (omega (arith, c .before .before .before .before .before .nodes-used .ensures .0)) .0) (c .before .before .node-row .ensures)) (c .if1 .taken))
+    upto-fail (λ (j : ℕ). nodeGood (naming (nodeAt (shown (now (c .before .before .before .before .before .before .before .before .before .args .volume)) .names .nodes) j .node) (shown (now (c .before .before .before .before .before .before .before .before .before .args .volume)) .names .entries)) (entriesOf (nodeAt (shown (now (c .before .before .before .before .before .before .before .before .before .args .volume)) .names .nodes) j .node) (shown (now (c .before .before .before .before .before .before .before .before .before .args .volume)) .names .entries)) (nodeAt (shown (now (c .before .before .before .before .before .before .before .before .before .args .volume)) .names .nodes) j)) (length (shown (now (c .before .before .before .before .before .before .before .before .before .args .volume)) .names .nodes)) (c .before .before .before .before .before .before .loop .i) (omega (arith, c .before .before .before .before .before .before .before .nodes-used .ensures .0)) (call-no (good-as (c .before .node-good .ensures) (c .before .before .before .before .before .before .before .before .before .pre .1 .1 (c .before .before .before .before .before .before .loop .i) (omega (arith, c .before .before .before .before .before .before .before .nodes-used .ensures .0)) .0) (c .before .before .before .before .before .before .before .before .before .pre .2 .1 (c .before .before .before .before .before .before .loop .i) (omega (arith, c .before .before .before .before .before .before .before .nodes-used .ensures .0)) .0) (c .before .before .before .before .node-row .ensures)) (c .if1 .taken))
 
 add-i : tie.Need-add-i Inv-loop μ-loop
 add-i c = search needs
@@ -76,12 +70,12 @@ loop-less c = search needs
 
 loop-again : tie.Need-loop-again Inv-loop μ-loop
 loop-again c =
-    (omega arith, upto-turn (λ (j : ℕ). nodeGood (naming (nodeAt (shown (now (c .before .before .before .before .before .before .before .before .before .args .volume)) .names .nodes) j .node) (shown (now (c .before .before .before .before .before .before .before .before .before .args .volume)) .names .entries)) (entriesOf (nodeAt (shown (now (c .before .before .before .before .before .before .before .before .before .args .volume)) .names .nodes) j .node) (shown (now (c .before .before .before .before .before .before .before .before .before .args .volume)) .names .entries)) (nodeAt (shown (now (c .before .before .before .before .before .before .before .before .before .args .volume)) .names .nodes) j)) (c .before .before .before .before .loop .i) (c .before .before .before .before .loop .inv .1) (call-yes (good-as (c .before .node-good .ensures) (c .before .before .before .before .before .before .before .count-named .ensures .1 (c .before .before .before .before .loop .i) (omega (arith, c .before .before .before .before .before .nodes-used .ensures .0)) .0) (c .before .before .before .before .before .before .count-held .ensures .1 (c .before .before .before .before .loop .i) (omega (arith, c .before .before .before .before .before .nodes-used .ensures .0)) .0) (c .before .before .node-row .ensures)) (c .if1 .left)))
+    (omega arith, upto-turn (λ (j : ℕ). nodeGood (naming (nodeAt (shown (now (c .before .before .before .before .before .before .before .before .before .args .volume)) .names .nodes) j .node) (shown (now (c .before .before .before .before .before .before .before .before .before .args .volume)) .names .entries)) (entriesOf (nodeAt (shown (now (c .before .before .before .before .before .before .before .before .before .args .volume)) .names .nodes) j .node) (shown (now (c .before .before .before .before .before .before .before .before .before .args .volume)) .names .entries)) (nodeAt (shown (now (c .before .before .before .before .before .before .before .before .before .args .volume)) .names .nodes) j)) (c .before .before .before .before .before .before .loop .i) (c .before .before .before .before .before .before .loop .inv .1) (call-yes (good-as (c .before .node-good .ensures) (c .before .before .before .before .before .before .before .before .before .pre .1 .1 (c .before .before .before .before .before .before .loop .i) (omega (arith, c .before .before .before .before .before .before .before .nodes-used .ensures .0)) .0) (c .before .before .before .before .before .before .before .before .before .pre .2 .1 (c .before .before .before .before .before .before .loop .i) (omega (arith, c .before .before .before .before .before .before .before .nodes-used .ensures .0)) .0) (c .before .before .before .before .node-row .ensures)) (c .if1 .left)))
 
 returns-2 : tie.Need-returns-2 Inv-loop μ-loop
 unfolding nodesGood
 returns-2 c =
-    upto-end (λ (j : ℕ). nodeGood (naming (nodeAt (shown (now (c .before .before .before .before .before .before .args .volume)) .names .nodes) j .node) (shown (now (c .before .before .before .before .before .before .args .volume)) .names .entries)) (entriesOf (nodeAt (shown (now (c .before .before .before .before .before .before .args .volume)) .names .nodes) j .node) (shown (now (c .before .before .before .before .before .before .args .volume)) .names .entries)) (nodeAt (shown (now (c .before .before .before .before .before .before .args .volume)) .names .nodes) j)) (length (shown (now (c .before .before .before .before .before .before .args .volume)) .names .nodes)) (c .before .loop .i) (c .before .loop .inv .1) (omega (arith, c .before .before .nodes-used .ensures .0))
+    upto-end (λ (j : ℕ). nodeGood (naming (nodeAt (shown (now (c .before .before .before .before .args .volume)) .names .nodes) j .node) (shown (now (c .before .before .before .before .args .volume)) .names .entries)) (entriesOf (nodeAt (shown (now (c .before .before .before .before .args .volume)) .names .nodes) j .node) (shown (now (c .before .before .before .before .args .volume)) .names .entries)) (nodeAt (shown (now (c .before .before .before .before .args .volume)) .names .nodes) j)) (length (shown (now (c .before .before .before .before .args .volume)) .names .nodes)) (c .before .loop .i) (c .before .loop .inv .1) (omega (arith, c .before .before .nodes-used .ensures .0))
 
 pub nodes-good-spec : {M : Type 1} → statement M
 nodes-good-spec =
@@ -89,16 +83,14 @@ nodes-good-spec =
     (tie.spec
     Inv-loop
     μ-loop
-    count-named-requires
-    count-held-requires
     nodes-used-requires
     loop-holds
     node-row-requires
     mul-node-good
-    array-read-node-good
+    element-copy-out-node-good
     cast-node-good
     mul-node-good-2
-    array-read-node-good-2
+    element-copy-out-node-good-2
     cast-node-good-2
     node-good-requires
     returns
