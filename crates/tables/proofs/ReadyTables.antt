@@ -5,15 +5,15 @@ use mathlib.Core.Path.{_≡_, refl, sym, ap, _∙_}
 use mathlib.Core.Bool.{Bool, false}
 use mathlib.Core.List.{List, [], _∷_, _++_}
 use Prim.Native.Nat.{ℕ, _+_, _-_, _*_, _≤_, _<_}
-use native.Mathlib.Nat.{mul-add, mul-one}
+use native.Mathlib.Nat.{add-zero, mul-add, mul-one}
 use native.Mathlib.Omega.{arith}
-use lib.ListN.{length, take, drop, getD, set}
-use Rattle.words.specs.Bytes.{part, over, zeros, spell, word}
-use Rattle.words.specs.Tables.{table, lead, Asc, insertAt, removeAt}
+use lib.ListN.{length, take, drop, getD, set, replicate, length-replicate, take-append-drop}
+use Rattle.words.specs.Bytes.{part, over, zeros, littleEndian, spell, num, word}
+use Rattle.words.specs.Tables.{table, layAll, joined, lead, Asc, insertAt, removeAt}
 use Rattle.words.specs.Tests.{Falls}
-use Rattle.words.proofs.Tables.{table-at}
+use Rattle.words.proofs.Tables.{table-at, layAll-one, lay-blank}
 use Rattle.words.proofs.Search.{asc-falls}
-use Rattle.words.proofs.Areas.{Counted, write-row, append-row, insert-row, remove-rows}
+use Rattle.words.proofs.Areas.{Counted, write-row, append-row, insert-rows, remove-rows}
 use Rattle.volume.specs.declared.Layout.{Layout}
 use Rattle.volume.specs.Rows.{readNode, readEntry, readChunk, layNode, layEntry, layChunk, chunkRow, entryRow, nodeRow}
 use Rattle.volume.specs.Volume.{shown, laid, withNextNode, withNodes, withEntries, withChunks, onNames, onStore}
@@ -100,12 +100,31 @@ module _ {l : List ℕ} {R : Type 0} {read : List ℕ → R} {lay : R → List �
   pub row-appended : (used : ℕ) (r : R) {m o : List ℕ} → used ≡ length rs → length rs < room → m ≡ over l (base + s * used) (lay r) → o ≡ over m head (spell 8 (used + 1)) → o ≡ put (rs ++ (r ∷ []))
   row-appended used r eu h em eo = append-row (t .counted) used (base + s * used) (used + 1) r (t .same) eu (omega arith) refl refl em eo
 
-  -- a row put in before row p
+  -- rows put in before row p
+  rows-inserted : (p used : ℕ) (qs : List R) {m o q : List ℕ} → used ≡ length rs → p ≤ length rs → length rs + length qs ≤ room → m ≡ over l (base + s * p + s * length qs) (part l (base + s * p) (base + s * used - (base + s * p)))
+      → o ≡ over m (base + s * p) (layAll lay qs) → q ≡ over o head (spell 8 (used + length qs)) → q ≡ put (take p rs ++ (qs ++ drop p rs))
+  rows-inserted p used qs eu b h em eo eq =
+      insert-rows (t .counted) p used (base + s * p) (base + s * p + s * length qs) (base + s * used - (base + s * p)) (used + length qs) qs
+      (t .same) eu (omega arith) (omega arith) refl refl (omega (arith, rows-add s p used (omega arith))) refl em eo eq
+
+  -- one row
   pub row-inserted : (p used : ℕ) (r : R) {m o q : List ℕ} → used ≡ length rs → p ≤ length rs → length rs < room → m ≡ over l (base + s * p + s) (part l (base + s * p) (base + s * used - (base + s * p)))
       → o ≡ over m (base + s * p) (lay r) → q ≡ over o head (spell 8 (used + 1)) → q ≡ put (insertAt p r rs)
-  row-inserted p used r eu b h em eo eq =
-      insert-row (t .counted) p used (base + s * p) (base + s * p + s) (base + s * used - (base + s * p)) (used + 1) r
-      (t .same) eu (omega arith) (omega arith) refl refl (omega (arith, rows-add s p used (omega arith))) refl em eo eq
+  unfolding insertAt
+  row-inserted p used r {m} {o} {q} eu b h em eo eq = rw (mul-one s, layAll-one) at (rows-inserted p used (r ∷ []) {m = m} {o = o} {q = q} eu b (omega arith)) em eo eq
+
+  -- n rows of zeros
+  pub rows-opened : (p n used : ℕ) (r : R) {m o q : List ℕ} → lay r ≡ zeros s → used ≡ length rs → p ≤ length rs → length rs + n ≤ room → m ≡ over l (base + s * p + s * n) (part l (base + s * p) (base + s * used - (base + s * p)))
+      → o ≡ over m (base + s * p) (zeros (s * n)) → q ≡ over o head (spell 8 (used + n)) → q ≡ put (take p rs ++ (replicate n r ++ drop p rs))
+  rows-opened p n used r {m} {o} {q} z eu b h em eo eq =
+      rw (length-replicate, lay-blank lay s r z n) at (rows-inserted p used (replicate n r) {m = m} {o = o} {q = q} eu b (rw length-replicate h)) em eo eq
+
+  -- none
+  pub none-opened : (p n : ℕ) (r : R) → n ≡ 0 → l ≡ put (take p rs ++ (replicate n r ++ drop p rs))
+  none-opened p n r e = rw (e, take-append-drop) (t .same)
+
+  pub none-removed : (p n : ℕ) → n ≡ 0 → l ≡ put (take p rs ++ drop (p + n) rs)
+  none-removed p n e = rw (e, add-zero, take-append-drop) (t .same)
 
   -- n rows taken out, from row p on
   pub rows-removed : (p n used : ℕ) {m o q : List ℕ} → used ≡ length rs → p + n ≤ length rs → m ≡ over l (base + s * (p + n) - s * n) (part l (base + s * (p + n)) (base + s * used - (base + s * (p + n))))
@@ -126,3 +145,8 @@ module _ {l : List ℕ} {R : Type 0} {read : List ℕ → R} {lay : R → List �
 -- a node's number, read by itself
 pub node-key : (l : List ℕ) (y : Layout) (r : Ready l y) (i : ℕ) {x : ℕ} → i < length (shown l .names .nodes) → x ≡ word l (y .nodes + nodeRow * i) → x ≡ nodeAt (shown l .names .nodes) i .node
 node-key l y r i h q = q ∙ ap (λ a. a .node) (sym (node-at l (y .nodes + nodeRow * i)) ∙ row-there (node-table l y r) i h refl)
+
+-- a chunk's row of zeros
+pub chunk-blank : layChunk (readChunk []) ≡ zeros chunkRow
+unfolding layChunk readChunk joined spell num part littleEndian zeros
+chunk-blank = refl

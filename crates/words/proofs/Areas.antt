@@ -3,14 +3,14 @@
 use mathlib.Core.Path.{_≡_, refl, sym, ap, _∙_}
 use mathlib.Core.List.{List, [], _∷_, _++_, append-assoc}
 use Prim.Native.Nat.{ℕ, suc, _+_, _-_, _*_, _≤_, _<_}
-use native.Mathlib.Nat.{mul-suc, mul-add, mul-one}
+use native.Mathlib.Nat.{mul-suc, mul-add}
 use native.Mathlib.Omega.{arith}
 use lib.ListN.{length-set, length, take, drop, getD, set, length-append, length-drop, take-append-drop}
 use lib.Seq.{set-getD, length-take-le, drop-drop}
 use Rattle.words.specs.Bytes.{part, over, zeros, spell}
-use Rattle.words.specs.Tables.{layAll, layWords, area, joined, insertAt}
+use Rattle.words.specs.Tables.{layAll, layWords, area, joined}
 use Rattle.words.proofs.Parts.{length-zeros, zeros-add, length-part, over-mid, part-mid, two, before}
-use Rattle.words.proofs.Tables.{put-word, length-insertAt, layAll-append, length-layAll, length-area, part-lay, set-area, insert-area, append-area, joined-cut, part-joined, over-joined}
+use Rattle.words.proofs.Tables.{put-word, length-inserted, layAll-append, length-layAll, length-area, part-lay, set-area, insert-area, append-area, joined-cut, part-joined, over-joined}
 use Rattle.words.proofs.Pieces.{unused-area}
 
 -- so many rows, and so many more
@@ -103,20 +103,21 @@ module _ {R : Type 0} (lay : R → List ℕ) (s : ℕ) (sized : (r : R) → leng
       over-joined ls k at (s * length rs) h (omega arith) (lay r) (rw (sized r) (inside (length rs) b))
       ∙ ap (λ (t : List ℕ). joined (set ls k t)) (rw e (append-area lay s sized room rs r b))
 
-  -- the rows from p on moved up by one row, and a row written at p
-  pub insert-joined : (p at to n : ℕ) (r : R) {m o : List ℕ} → p ≤ length rs → length rs < room → at ≡ base + s * p → to ≡ base + s * (p + 1) → n ≡ s * (length rs - p)
-      → m ≡ over (joined ls) to (part (joined ls) at n) → o ≡ over m at (lay r) → o ≡ joined (set ls k (area lay s room (insertAt p r rs)))
-  insert-joined p at to n r b c ea et en em eo =
+  -- the rows from p on moved up by so many rows, and these written at p
+  pub insert-joined : (p at to n : ℕ) (qs : List R) {m o : List ℕ} → p ≤ length rs → length rs + length qs ≤ room → at ≡ base + s * p → to ≡ at + s * length qs → n ≡ s * (length rs - p)
+      → m ≡ over (joined ls) to (part (joined ls) at n) → o ≡ over m at (layAll lay qs) → o ≡ joined (set ls k (area lay s room (take p rs ++ (qs ++ drop p rs))))
+  insert-joined p at to n qs b c ea et en em eo =
       let A = getD ls k [] in
       let u = rows-add s p (length rs) b in
-      let w = inside (length rs) c in
-      let i : s * (p + 1) ≡ s * p + s = rw (mul-add, mul-one) in
-      let q : part (joined ls) at n ≡ part A (s * p) n = part-joined ls k at (s * p) h (omega arith) n (omega arith) in
-      let z : length (part A (s * p) n) ≡ n = length-part A (s * p) n (omega arith) in
-      let y : length (lay r ++ part A (s * p) n) ≡ s + n = rw (length-append, sized r, z) in
-      let x : over A (s * p) (lay r ++ part A (s * p) n) ≡ area lay s room (insertAt p r rs) = rw (e, en) (insert-area lay s sized room rs p r b c) in
-      before (joined ls) at (lay r) (part (joined ls) at n) to em eo (rw (sized r) (omega arith)) (rw (q, z, sized r) (omega (arith, whole, size)))
-      ∙ rw q (over-joined ls k at (s * p) h (omega arith) (lay r ++ part A (s * p) n) (rw y (omega arith)))
+      let w = rows-add s (length rs + length qs) room c in
+      let i : s * (length rs + length qs) ≡ s * length rs + s * length qs = mul-add s (length rs) (length qs) in
+      let j : length (layAll lay qs) ≡ s * length qs = length-layAll lay s sized qs in
+      let q : part (joined ls) at n ≡ part A (s * p) n = part-joined ls k at (s * p) h (omega arith) n (omega (arith, size)) in
+      let z : length (part A (s * p) n) ≡ n = length-part A (s * p) n (omega (arith, size)) in
+      let y : length (layAll lay qs ++ part A (s * p) n) ≡ s * length qs + n = rw (length-append, j, z) in
+      let x : over A (s * p) (layAll lay qs ++ part A (s * p) n) ≡ area lay s room (take p rs ++ (qs ++ drop p rs)) = rw (e, en) (insert-area lay s sized room rs p qs b c) in
+      before (joined ls) at (layAll lay qs) (part (joined ls) at n) to em eo (rw j (omega arith)) (rw (q, z, j) (omega (arith, whole)))
+      ∙ rw q (over-joined ls k at (s * p) h (omega arith) (layAll lay qs ++ part A (s * p) n) (rw y (omega (arith, size))))
       ∙ ap (λ (t : List ℕ). joined (set ls k t)) x
 
   -- the rows behind n rows from p on moved down over them, and the rows that the last of them leave cleared
@@ -195,15 +196,14 @@ module _ {R : Type 0} {lay : R → List ℕ} {s base room head : ℕ} {rs : List
       em ∙ rw (el, here) (append-joined lay s (t .sized) (layWords ws ∷ ls) (suc (t .which)) base room rs (omega arith) (t .stands) (t .start) (t .fits) at r (omega arith) (rw (← eu) ea)) in
       count-rows (rs ++ (r ∷ [])) x (ex ∙ rw (length-append, eu)) j eo
 
-  -- a row put in at p, and counted
-  pub insert-row : (p used at to n x : ℕ) (r : R) {l m o q : List ℕ} → l ≡ put rs → used ≡ length rs → p ≤ used → used < room → at ≡ base + s * p → to ≡ at + s → n ≡ s * (used - p) → x ≡ used + 1
-      → m ≡ over l to (part l at n) → o ≡ over m at (lay r) → q ≡ over o head (spell 8 x) → q ≡ put (insertAt p r rs)
-  insert-row p used at to n x r {l} {m} {o} el eu b c ea et en ex em eo eq =
-      let i : s * (p + 1) ≡ s * p + s = rw (mul-add, mul-one) in
+  -- rows put in at p, and counted
+  pub insert-rows : (p used at to n x : ℕ) (qs : List R) {l m o q : List ℕ} → l ≡ put rs → used ≡ length rs → p ≤ used → used + length qs ≤ room → at ≡ base + s * p → to ≡ at + s * length qs → n ≡ s * (used - p) → x ≡ used + length qs
+      → m ≡ over l to (part l at n) → o ≡ over m at (layAll lay qs) → q ≡ over o head (spell 8 x) → q ≡ put (take p rs ++ (qs ++ drop p rs))
+  insert-rows p used at to n x qs {l} {m} {o} el eu b c ea et en ex em eo eq =
       let h : m ≡ over (joined (layWords ws ∷ ls)) to (part (joined (layWords ws ∷ ls)) at n) = em ∙ rw (el, here) in
-      let j : o ≡ joined (layWords ws ∷ set ls (t .which) (area lay s room (insertAt p r rs))) =
-      insert-joined lay s (t .sized) (layWords ws ∷ ls) (suc (t .which)) base room rs (omega arith) (t .stands) (t .start) (t .fits) p at to n r (omega arith) (omega arith) ea (omega arith) (rw (← eu) en) h eo in
-      count-rows (insertAt p r rs) x (omega (arith, length-insertAt p r rs (omega arith))) j eq
+      let j : o ≡ joined (layWords ws ∷ set ls (t .which) (area lay s room (take p rs ++ (qs ++ drop p rs)))) =
+      insert-joined lay s (t .sized) (layWords ws ∷ ls) (suc (t .which)) base room rs (omega arith) (t .stands) (t .start) (t .fits) p at to n qs (omega arith) (omega arith) ea et (rw (← eu) en) h eo in
+      count-rows (take p rs ++ (qs ++ drop p rs)) x (omega (arith, length-inserted p qs rs (omega arith))) j eq
 
   -- n rows taken out from p on, and counted
   pub remove-rows : (p n used at from len last gone x : ℕ) {l m o q : List ℕ} → l ≡ put rs → used ≡ length rs → p + n ≤ used → at ≡ base + s * p → from ≡ at + s * n → len ≡ s * (used - (p + n)) → last ≡ base + s * (used - n) → gone ≡ s * n → x ≡ used - n

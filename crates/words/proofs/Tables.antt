@@ -3,10 +3,10 @@
 use mathlib.Core.Path.{_≡_, refl, sym, ap, _∙_}
 use mathlib.Core.List.{List, [], _∷_, _++_, append-assoc, append-nil}
 use Prim.Native.Nat.{ℕ, zero, suc, _+_, _-_, _*_, _^_, _≤_, _<_}
-use native.Mathlib.Nat.{suc-add, add-zero, zero-add, add-comm, mul-add, mul-zero, mul-one, mul-suc, sub-self, sub-zero, not-suc-le-zero, le-of-suc-le-suc}
+use native.Mathlib.Nat.{suc-add, add-zero, zero-add, add-comm, mul-add, mul-zero, mul-suc, sub-self, sub-zero, not-suc-le-zero, le-of-suc-le-suc}
 use native.Mathlib.Numerals.{add-one}
 use native.Mathlib.Omega.{arith}
-use lib.ListN.{length, take, drop, getD, set, length-append, length-drop, length-set, take-append-drop}
+use lib.ListN.{length, take, drop, getD, set, replicate, length-append, length-drop, length-set, take-append-drop}
 use lib.Seq.{take-append-add, take-at, drop-at, length-take-le, set-split, split-at, take-length, drop-length}
 use Rattle.words.specs.Bytes.{part, over, zeros, padded, littleEndian, spell, num}
 use Rattle.words.specs.Tables.{layAll, table, insertAt, joined, area, layWords, Each}
@@ -19,6 +19,10 @@ module _ {R : Type 0} (lay : R → List ℕ) where
   unfolding layAll
   layAll-append [] b = refl
   layAll-append (r ∷ a) b = rw (layAll-append a b, append-assoc)
+
+  pub layAll-one : (r : R) → layAll lay (r ∷ []) ≡ lay r
+  unfolding layAll
+  layAll-one r = append-nil (lay r)
 
 module _ {R : Type 0} (lay : R → List ℕ) (s : ℕ) (sized : (r : R) → length (lay r) ≡ s) where
   pub length-layAll : (rs : List R) → length (layAll lay rs) ≡ s * length rs
@@ -39,28 +43,27 @@ module _ {R : Type 0} (read : List ℕ → R) (lay : R → List ℕ) (s : ℕ) (
       rw (p, h .0) (ap (λ (t : List R). r ∷ t) (simp append-assoc (simp append-assoc at k)))
 
 module _ {R : Type 0} (lay : R → List ℕ) (s : ℕ) (sized : (r : R) → length (lay r) ≡ s) where
-  -- the same, at the rows before p and those from p
-  insert₂ : (A : List ℕ) (a b : List R) (Z C : List ℕ) (at : ℕ) (r : R) (n : ℕ) → length A + length (layAll lay a) ≡ at → length (layAll lay b) ≡ n → length Z ≡ s
-      → over (A ++ (layAll lay (a ++ b) ++ (Z ++ C))) at (lay r ++ part (A ++ (layAll lay (a ++ b) ++ (Z ++ C))) at n) ≡ A ++ (layAll lay (a ++ (r ∷ b)) ++ C)
-  unfolding layAll
-  insert₂ A a b Z C at r n e h z =
+  -- at the rows before the new ones and those behind them
+  insert₃ : (A : List ℕ) (a qs b : List R) (Z C : List ℕ) (at n : ℕ) → length A + length (layAll lay a) ≡ at → length (layAll lay b) ≡ n → length Z ≡ s * length qs
+      → over (A ++ (layAll lay (a ++ b) ++ (Z ++ C))) at (layAll lay qs ++ part (A ++ (layAll lay (a ++ b) ++ (Z ++ C))) at n) ≡ A ++ (layAll lay (a ++ (qs ++ b)) ++ C)
+  insert₃ A a qs b Z C at n e h z =
       let T = layAll lay a in
+      let Q = layAll lay qs in
       let D = layAll lay b in
       let g : A ++ (layAll lay (a ++ b) ++ (Z ++ C)) ≡ (A ++ T) ++ ((D ++ Z) ++ C) = simp (layAll-append lay a b, append-assoc) in
       let q : length (A ++ T) ≡ at = length-append A T ∙ e in
       let p : part ((A ++ T) ++ ((D ++ Z) ++ C)) at n ≡ D = rw (append-assoc D Z C) (part-mid (A ++ T) D (Z ++ C) at n q h) in
-      let w : length (D ++ Z) ≡ length (lay r ++ D) = simp (length-append, sized r, z) (omega arith) in
-      let y : layAll lay (a ++ (r ∷ b)) ≡ T ++ (lay r ++ D) = layAll-append lay a (r ∷ b) in
-      rw (g, p, over-mid (A ++ T) (D ++ Z) C (lay r ++ D) at q w, y) (simp append-assoc)
+      let w : length (D ++ Z) ≡ length (Q ++ D) = simp (length-append, length-layAll lay s sized qs, z) (omega arith) in
+      let y : layAll lay (a ++ (qs ++ b)) ≡ T ++ (Q ++ D) = layAll-append lay a (qs ++ b) ∙ ap (λ (t : List ℕ). T ++ t) (layAll-append lay qs b) in
+      rw (g, p, over-mid (A ++ T) (D ++ Z) C (Q ++ D) at q w, y) (simp append-assoc)
 
-  -- a row put in, and what stands behind it moved up over s bytes Z
-  pub insert-lay : (A : List ℕ) (rs : List R) (Z C : List ℕ) (at p : ℕ) (r : R) → length A + s * p ≡ at → p ≤ length rs → length Z ≡ s
-      → over (A ++ (layAll lay rs ++ (Z ++ C))) at (lay r ++ part (A ++ (layAll lay rs ++ (Z ++ C))) at (s * (length rs - p))) ≡ A ++ (layAll lay (insertAt p r rs) ++ C)
-  unfolding insertAt
-  insert-lay A rs Z C at p r e h z =
+  -- rows put in, and what stands behind them moved up over as many bytes Z
+  insert-lay : (A : List ℕ) (rs qs : List R) (Z C : List ℕ) (at p : ℕ) → length A + s * p ≡ at → p ≤ length rs → length Z ≡ s * length qs
+      → over (A ++ (layAll lay rs ++ (Z ++ C))) at (layAll lay qs ++ part (A ++ (layAll lay rs ++ (Z ++ C))) at (s * (length rs - p))) ≡ A ++ (layAll lay (take p rs ++ (qs ++ drop p rs)) ++ C)
+  insert-lay A rs qs Z C at p e h z =
       let q : length (layAll lay (take p rs)) ≡ s * p = length-layAll lay s sized (take p rs) ∙ ap (λ (k : ℕ). s * k) (length-take-le p rs h) in
       let d : length (layAll lay (drop p rs)) ≡ s * (length rs - p) = length-layAll lay s sized (drop p rs) ∙ ap (λ (k : ℕ). s * k) (length-drop p rs) in
-      rw take-append-drop at (insert₂ A (take p rs) (drop p rs) Z C at r (s * (length rs - p)) (omega arith) d z)
+      rw take-append-drop at (insert₃ A (take p rs) qs (drop p rs) Z C at (s * (length rs - p)) (omega arith) d z)
 
 -- ---- areas
 
@@ -86,9 +89,12 @@ module _ (ls : List (List ℕ)) (k at i : ℕ) (h : k < length ls) (e : at ≡ l
 
 -- ---- one row written over
 
+pub length-inserted : {R : Type 0} (p : ℕ) (qs rs : List R) → p ≤ length rs → length (take p rs ++ (qs ++ drop p rs)) ≡ length rs + length qs
+length-inserted p qs rs h = simp (length-append, length-take-le p rs h, length-drop) (omega arith)
+
 pub length-insertAt : {R : Type 0} (p : ℕ) (r : R) (rs : List R) → p ≤ length rs → length (insertAt p r rs) ≡ length rs + 1
 unfolding insertAt
-length-insertAt p r rs h = simp (length-append, length-take-le p rs h, length-drop) (omega arith)
+length-insertAt p r rs h = length-inserted p (r ∷ []) rs h
 
 module _ {R : Type 0} (lay : R → List ℕ) (s : ℕ) (sized : (r : R) → length (lay r) ≡ s) where
   pub layAll-cut : (rs : List R) (k : ℕ) (d : R) → k < length rs → layAll lay rs ≡ layAll lay (take k rs) ++ (lay (getD rs k d) ++ layAll lay (drop (suc k) rs))
@@ -120,16 +126,16 @@ module _ {R : Type 0} (lay : R → List ℕ) (s : ℕ) (sized : (r : R) → leng
       rw (length-append, length-zeros, length-layAll lay s sized rs, ← mul-add)
       (ap (λ (n : ℕ). s * n) (omega arith))
 
-  -- a row put into a table that has room
-  pub insert-area : (room : ℕ) (rs : List R) (p : ℕ) (r : R) → p ≤ length rs → length rs < room
-      → over (area lay s room rs) (s * p) (lay r ++ part (area lay s room rs) (s * p) (s * (length rs - p))) ≡ area lay s room (insertAt p r rs)
+  -- rows put into a table that has room
+  pub insert-area : (room : ℕ) (rs : List R) (p : ℕ) (qs : List R) → p ≤ length rs → length rs + length qs ≤ room
+      → over (area lay s room rs) (s * p) (layAll lay qs ++ part (area lay s room rs) (s * p) (s * (length rs - p))) ≡ area lay s room (take p rs ++ (qs ++ drop p rs))
   unfolding area
-  insert-area room rs p r h k =
-      let z : zeros (s * (room - length rs)) ≡ zeros s ++ zeros (s * (room - length (insertAt p r rs))) =
-      let m : room - length rs ≡ (room - length (insertAt p r rs)) + 1 = omega (arith, length-insertAt p r rs h) in
-      let q : s * (room - length rs) ≡ s + s * (room - length (insertAt p r rs)) = rw (m, mul-add, mul-one) (add-comm (s * (room - length (insertAt p r rs))) s) in
-      ap zeros q ∙ sym (zeros-add s (s * (room - length (insertAt p r rs)))) in
-      rw z (insert-lay lay s sized [] rs (zeros s) (zeros (s * (room - length (insertAt p r rs)))) (s * p) p r (zero-add (s * p)) h (length-zeros s))
+  insert-area room rs p qs h k =
+      let n = length (take p rs ++ (qs ++ drop p rs)) in
+      let z : zeros (s * (room - length rs)) ≡ zeros (s * length qs) ++ zeros (s * (room - n)) =
+      let m : room - length rs ≡ length qs + (room - n) = omega (arith, length-inserted p qs rs h) in
+      ap (λ (x : ℕ). zeros (s * x)) m ∙ ap zeros (mul-add s (length qs) (room - n)) ∙ sym (zeros-add (s * length qs) (s * (room - n))) in
+      rw z (insert-lay lay s sized [] rs qs (zeros (s * length qs)) (zeros (s * (room - n))) (s * p) p (zero-add (s * p)) h (length-zeros (s * length qs)))
 
 -- word i of words
 pub num-words : (ws : List ℕ) (C : List ℕ) (i : ℕ) → Each (λ w. w < 2 ^ 64) ws → i < length ws → num 8 (layWords ws ++ C) (8 * i) ≡ getD ws i 0
@@ -174,12 +180,15 @@ pub put-word : (ws : List ℕ) (ls : List (List ℕ)) (k x : ℕ) → k < length
 unfolding joined
 put-word ws ls k x h = set-lay (spell 8) 8 (length-spell 8) ws (joined ls) k x h
 
+-- rows of zeros
+pub lay-blank : {R : Type 0} (lay : R → List ℕ) (s : ℕ) (r : R) → lay r ≡ zeros s → (n : ℕ) → layAll lay (replicate n r) ≡ zeros (s * n)
+unfolding layAll
+lay-blank lay s r e zero = unfold zeros in rw mul-zero
+lay-blank lay s r e (suc n) = rw (e, lay-blank lay s r e n, mul-suc, zeros-add) (ap zeros (add-comm s (s * n)))
+
 pub words-zero : (k : ℕ) → layWords (zeros k) ≡ zeros (8 * k)
-unfolding layAll spell zeros
-words-zero zero = refl
-words-zero (suc k) =
-    let e : 8 * suc k ≡ 8 + 8 * k = omega arith in
-    rw (words-zero k, e) (zeros-add 8 (8 * k))
+unfolding spell zeros
+words-zero k = lay-blank (spell 8) 8 0 refl k
 
 pub area-nil : {R : Type 0} (lay : R → List ℕ) (s room : ℕ) → area lay s room [] ≡ zeros (s * room)
 unfolding area layAll
@@ -194,8 +203,7 @@ cleared l = rw (length-zeros, zero-add, drop-length, append-nil)
 pub append-area : {R : Type 0} (lay : R → List ℕ) (s : ℕ) (sized : (r : R) → length (lay r) ≡ s) (room : ℕ) (rs : List R) (r : R) → length rs < room
     → over (area lay s room rs) (s * length rs) (lay r) ≡ area lay s room (rs ++ (r ∷ []))
 append-area lay s sized room rs r h =
-    let i : insertAt (length rs) r rs ≡ rs ++ (r ∷ []) = unfold insertAt in rw (take-length rs, drop-length rs) in
-    rw (sub-self, mul-zero, part-zero, append-nil, i) at (insert-area lay s sized room rs (length rs) r (omega arith) h)
+    rw (sub-self, mul-zero, part-zero, append-nil, take-length, drop-length, layAll-one) at (insert-area lay s sized room rs (length rs) (r ∷ []) (omega arith) (omega arith))
 
 pub table-at : {R : Type 0} (read : List ℕ → R) (s : ℕ) (l : List ℕ) (at n k : ℕ) (d : R) → k < n → getD (table read s l at n) k d ≡ read (part l (at + s * k) s)
 unfolding table
