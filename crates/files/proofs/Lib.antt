@@ -3,7 +3,10 @@ pub mod ReadGives
 pub mod ReadPieces
 pub mod WriteLoop
 pub mod LentChunk
+pub mod Gap
+pub mod KeepSteps
 pub mod TakeSteps
+pub mod ChunkSteps
 pub mod WriteSteps
 pub mod FreeSteps
 pub mod ResizeSteps

@@ -91,14 +91,18 @@ module _ (n offset : ℕ) (bs : List ℕ) (l : List ℕ) (y : Layout) (ready : R
         pub end-most : offset + length bs ≤ 1099511627776
         end-most = omega (arith, ltb-false (fileLimit (f .row .limit)) (offset + length bs) (sym above ∙ s), limit-most (f .row .limit) (row-fits .limit))
 
-        -- what `is_cramped` asks, of the place found for the first index
-        pub room-asked : {size first : ℕ} → IsSpan l size → first ≡ lead (chunkUnder n (offset / size)) (v .store .chunks)
+        -- what `count_holes` asks, of the place found for the first index
+        pub holes-asked : {size first : ℕ} → IsSpan l size → first ≡ lead (chunkUnder n (offset / size)) (v .store .chunks)
             → Ready l y × Workable (v .store) × (0 < length bs) × (offset + length bs ≤ 1099511627776) × (first ≡ lead (chunkUnder n (offset / size)) (v .store .chunks)) × IsSpan l size
-        room-asked es ef = (ready, st, some-bytes, end-most, ef, es)
+        holes-asked es ef = (ready, st, some-bytes, end-most, ef, es)
 
-        module _ {a : Bool} (m : a ≡ ltb (room (v .store)) (holes n offset (length bs) (v .store))) where
+        -- what `is_cramped` asks
+        pub room-asked : {size : ℕ} → IsSpan l size → Ready l y × Workable (v .store) × IsSpan l size
+        room-asked es = (ready, st, es)
+
+        module _ {b : ℕ} (eb : b ≡ holes n offset (length bs) (v .store)) {a : Bool} (m : a ≡ ltb (room (v .store)) b) where
           cramped-row : ltb (room (v .store)) (holes (f .row .node) offset (length bs) (v .store)) ≡ a
-          cramped-row = rw (its .number) (sym m)
+          cramped-row = rw (its .number, ← eb) (sym m)
 
           -- 6
           pub write-cramped : a ≡ true → Meets (Refused NoChunkRoom) l (write n offset bs v)
@@ -108,19 +112,19 @@ module _ (n offset : ℕ) (bs : List ℕ) (l : List ℕ) (y : Layout) (ready : R
               (pick-false _ _ _ _ (ne-eqb _ _ bytes) (pick-false _ _ _ _ (sym above ∙ s) (pick-true _ _ _ _ (cramped-row ∙ e) refl)) ∙ onward)
 
           module _ (z : a ≡ false) where
-            enough : holes n offset (length bs) (v .store) ≤ room (v .store)
-            enough = omega (arith, ltb-false (room (v .store)) (holes n offset (length bs) (v .store)) (sym m ∙ z))
+            enough : b ≤ room (v .store)
+            enough = omega (arith, ltb-false (room (v .store)) b (sym m ∙ z))
 
             -- what `write_chunks_v2` asks
             pub chunks-asked : {size first : ℕ} → IsSpan l size → first ≡ lead (chunkUnder n (offset / size)) (v .store .chunks)
-                → Ready l y × Workable (v .store) × (0 < length bs) × (offset + length bs ≤ 1099511627776) × (holes n offset (length bs) (v .store) ≤ room (v .store)) × (first ≡ lead (chunkUnder n (offset / size)) (v .store .chunks)) × IsSpan l size
-            chunks-asked es ef = (ready, st, some-bytes, end-most, enough, ef, es)
+                → Ready l y × Workable (v .store) × (0 < length bs) × (offset + length bs ≤ 1099511627776) × (b ≡ holes n offset (length bs) (v .store)) × (b ≤ room (v .store)) × (first ≡ lead (chunkUnder n (offset / size)) (v .store .chunks)) × IsSpan l size
+            chunks-asked es ef = (ready, st, some-bytes, end-most, eb, enough, ef, es)
 
             -- behind it
             module _ {j : List ℕ} (e : j ≡ laid (onStore (written n offset bs) v)) where
               after : (shown j ≡ onStore (written n offset bs) v) × Ready j y
               after =
-                  store-step ready (written n offset bs (v .store)) (fits-written (v .store) st n offset bs some-bytes enough (ready .formed .fits .store) (rw (its .number) at (row-fits .node)) (omega (arith, end-most)))
+                  store-step ready (written n offset bs (v .store)) (fits-written (v .store) st n offset bs some-bytes (omega (arith, enough, eb)) (ready .formed .fits .store) (rw (its .number) at (row-fits .node)) (omega (arith, end-most)))
                   (kept-written n offset bs (v .store) .chunkRoom) e
 
               -- what `change_node` asks

@@ -1,4 +1,5 @@
 pub mod FileRows
+pub mod Gap
 pub mod Read
 pub mod Limits
 pub mod Write

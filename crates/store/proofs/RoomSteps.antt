@@ -1,4 +1,4 @@
--- How much room there is for new chunks, as code counts it.
+-- How much room there is for new chunks, and how many a write needs, as code counts them.
 -- Assumes nothing.
 use mathlib.Core.Path.{_≡_, refl, sym, _∙_}
 use mathlib.Core.Bool.{Bool, true, false}
@@ -16,17 +16,10 @@ pub room-is : (v : Store) {c rows area next free s r : ℕ} → c ≡ v .chunkRo
 unfolding room
 room-is v ec er ea en ef es h = h ∙ rw (ec, er, ea, en, ef, es)
 
--- room compared with holes
-module _ (v : Store) (n offset count : ℕ) {s t b : ℕ} (es : s ≡ v .allocator .chunkSize) (et : t ≡ numOf s offset count) (eb : b ≡ missing n t (offset / s) (v .chunks)) where
-  holes-are : b ≡ holes n offset count v
-  unfolding holes
-  holes-are = rw (eb, et, es)
-
-  pub cramped-none : b ≡ 0 → false ≡ ltb (room v) (holes n offset count v)
-  cramped-none z = sym (le-ltb (room v) (holes n offset count v) (omega (arith, holes-are)))
-
-  pub cramped-is : {a : ℕ} → a ≡ room v → ltb a b ≡ ltb (room v) (holes n offset count v)
-  cramped-is ea = rw (ea, holes-are)
+-- the holes that a write meets
+pub holes-are : (v : Store) (n offset count : ℕ) {s t b : ℕ} → s ≡ v .allocator .chunkSize → t ≡ numOf s offset count → b ≡ missing n t (offset / s) (v .chunks) → b ≡ holes n offset count v
+unfolding holes
+holes-are v n offset count es et eb = rw (eb, et, es)
 
 -- their number is no great one
 pub room-small : (area s free : ℕ) → area < 18446744073709551616 → 4096 ≤ s → free ≤ 4096 → free + area / s < 18446744073709551616

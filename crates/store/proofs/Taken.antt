@@ -93,7 +93,7 @@ module _ (v : Store) (st : Workable v) (some-room : 1 ≤ room v) where
   unfolding room
   some-left = omega (arith, some-room)
 
-  pub rows-fewer : length (v .chunks) < v .chunkRoom
+  rows-fewer : length (v .chunks) < v .chunkRoom
   unfolding room
   rows-fewer = omega (arith, some-room)
 

@@ -81,6 +81,9 @@ module _ (v : Store) (st : Workable v) (n offset : ℕ) (bs : List ℕ) (k row :
       found : chunk n k (v .chunks) ≡ some c
       found = row-yes n k (v .chunks) (st .stored .order) at (sym hit ∙ e) .1 .0 ∙ ap some (sym q)
 
+      pub no-hole : hole (chunk n k (v .chunks)) ≡ 0
+      no-hole = ap hole found
+
       pub its-inside : Inside v c
       its-inside = row-inside-found v st n k c found
 

@@ -62,7 +62,7 @@ writes-none {k = k} v st =
     record { stored = st; fits = λ f h i. f; space = omega arith; place = rw (add-zero k) (omega arith); rows = λ m i h. refl; inside = λ j x y. absurd (omega arith); outside = λ m j h. refl }
 
 module _ {s n offset : ℕ} {bs : List ℕ} {k : ℕ} (c : ℕ) {u v : Store} (a : Writes s n offset bs k 1 u v) where
-  next-missing : missing n c (suc k) (v .chunks) ≡ missing n c (suc k) (u .chunks)
+  pub next-missing : missing n c (suc k) (v .chunks) ≡ missing n c (suc k) (u .chunks)
   next-missing = missing-same n c (suc k) (u .chunks) (v .chunks) (λ i h. a .rows n i (λ e x y. omega arith))
 
   -- one chunk, then the c behind it

@@ -6,7 +6,7 @@ ghost use mathlib.Core.Path.{_≡_};
 ghost use mathlib.Core.List.{[], _++_};
 ghost use Prim.Native.Nat.{_+_, _≤_, _<_};
 ghost use lib.ListN.{length, take, drop, set, replicate};
-ghost use Rattle.words.specs.Tables.{insertAt, lead, Asc};
+ghost use Rattle.words.specs.Tables.{lead, Asc};
 ghost use Rattle.volume.specs.Rows.{readChunk};
 ghost use Rattle.volume.specs.Volume.{shown, laid, withChunks, onStore};
 ghost use Rattle.volume.specs.Search.{chunkUnder};
@@ -56,24 +56,6 @@ pub fn open_chunks(volume: &mut [u8], layout: Layout, place: usize, count: usize
     words::shift_up(volume, at, base + volume::CHUNK_ROW * used, new);
     words::clear(volume, at, new);
     words::put64(volume, volume::CHUNKS_USED, (used + count) as u64);
-}
-
-// Puts a row in before the row at a place.
-pub fn insert_chunk(volume: &mut [u8], layout: Layout, place: usize, row: ChunkRow)
-    requires { ⌜ Ready (now volume) layout × (place ≤ length (shown (now volume) .store .chunks)) × (length (shown (now volume) .store .chunks) < shown (now volume) .store .chunkRoom) ⌝ }
-    ensures { λ _. ⌜ now (volume .exit) ≡ laid (onStore (withChunks (insertAt place row (shown (now (volume .entry)) .store .chunks))) (shown (now (volume .entry)))) ⌝ }
-{
-    let used = chunks_used(volume, layout);
-    let base = layout.chunks;
-    let at = base + volume::CHUNK_ROW * place;
-    words::shift_up(
-        volume,
-        at,
-        base + volume::CHUNK_ROW * used,
-        volume::CHUNK_ROW,
-    );
-    volume::write_chunk(volume, at, row);
-    words::put64(volume, volume::CHUNKS_USED, used as u64 + 1);
 }
 
 // Takes rows out, from a place on, in one move.

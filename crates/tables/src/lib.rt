@@ -9,7 +9,6 @@ mod pointers;
 pub use chunks::change_chunk;
 pub use chunks::chunk_row;
 pub use chunks::first_chunk;
-pub use chunks::insert_chunk;
 pub use chunks::open_chunks;
 pub use chunks::remove_chunks;
 pub use entries::entry_index;
