@@ -24,6 +24,7 @@ static const struct shape SHAPES[] = {
     {"full, 64 directories", ROWS, 64, SHORT_NAMES, WHOLE_CHUNKS},
     {"full, one directory", ROWS, 0, SHORT_NAMES, WHOLE_CHUNKS},
     {"full, one directory, long names, one byte in each chunk", ROWS, 0, LONG_NAMES, ENDED_CHUNKS},
+    {"the same, names that differ in front, in no order", ROWS, 0, SHUFFLED_NAMES, ENDED_CHUNKS},
 };
 
 /* Those whose rules are told apart: no group costs so much that the others are lost in its noise. */
@@ -33,7 +34,7 @@ static const struct shape APART[] = {
 };
 
 static const char *const GROUPS[RULES] = {
-    "frame", "order of nodes and entries", "indexes, next node, node 0, names allowed", "parents", "targets", "names twice", "links, limits, directory sizes",
+    "frame", "order of nodes and entries", "next node, node 0, indexes, names allowed", "parents and targets", "links, limits, directory sizes", "names twice",
     "order of chunk rows, pointers", "owners of chunks, zeros above a size",
 };
 

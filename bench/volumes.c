@@ -73,14 +73,21 @@ static void put_nodes(const struct shape *shape)
 
 /* ---- entries */
 
+/* Every number below as many as rows once, in no order. */
+static unsigned shuffled(unsigned i)
+{
+    return i * 2731 % ROWS;
+}
+
 static unsigned put_name(size_t at, enum names names, unsigned i)
 {
     char digits[16];
-    unsigned lead = names == LONG_NAMES ? 251 : 6;
-    memset(&volume[at], 'x', lead);
-    snprintf(digits, sizeof digits, "%04u", i);
-    memcpy(&volume[at + lead], digits, 4);
-    return lead + 4;
+    unsigned length = names == SHORT_NAMES ? 10 : 255;
+    int in_front = names == SHUFFLED_NAMES;
+    memset(&volume[at], 'x', length);
+    snprintf(digits, sizeof digits, "%04u", in_front ? shuffled(i) : i);
+    memcpy(&volume[in_front ? at : at + length - 4], digits, 4);
+    return length;
 }
 
 /* The entry in row i; its directory and its node learn of it. */
@@ -109,10 +116,9 @@ static void put_entries(const struct shape *shape)
 
 /* ---- chunks */
 
-/* Every pointer once, in no order. */
 static uint64_t pointer(unsigned i)
 {
-    return (uint64_t)(i * 2731 % ROWS) * CHUNK;
+    return (uint64_t)shuffled(i) * CHUNK;
 }
 
 static void put_free(unsigned i)
@@ -175,10 +181,9 @@ void break_rule(enum rules rules)
     case FRAME: volume[name + NAME_ROOM - 1] = 1; break;
     case ORDER: put(entry + INDEX, 4, 0); break;
     case NUMBERS: volume[name + get(entry + NAME_LENGTH, 4) - 1] = '/'; break;
-    case PARENTS: put(entry, 8, ROWS - 1); break;
-    case TARGETS: put(entry + NODE, 8, ROWS); break;
-    case NAMES: memcpy(&volume[name], &volume[entry_row(ROWS - 2) + NAME], NAME_ROOM); break;
+    case RELATIONS: put(entry + NODE, 8, ROWS); break;
     case LINKS: add(node_row(ROWS - 1) + LINK_COUNT, 1); break;
+    case NAMES: memcpy(&volume[name], &volume[entry_row(ROWS - 2) + NAME], NAME_ROOM); break;
     case POINTERS: break_pointers(); break;
     case OWNERS: put(chunk_row(ROWS - 1) + CHUNK_INDEX, 8, ROWS); break;
     case RULES: break;

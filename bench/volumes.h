@@ -18,8 +18,9 @@ enum {
     LENGTH = BYTES + CHUNK * ROWS
 };
 
-/* Names of ten bytes, or of 255, the most; two of them differ in their last four bytes only. */
-enum names { NO_ENTRIES, SHORT_NAMES, LONG_NAMES };
+/* Names of ten bytes, or of 255, the most; two of them differ in their last four bytes only, in ascending order, or in their first four, in no
+   order. */
+enum names { NO_ENTRIES, SHORT_NAMES, LONG_NAMES, SHUFFLED_NAMES };
 
 /* Chunks written to their end or for one byte each, or all of them freed. */
 enum chunks { NO_CHUNKS, WHOLE_CHUNKS, ENDED_CHUNKS, FREE_CHUNKS };
@@ -33,7 +34,7 @@ struct shape {
 };
 
 /* Groups of rules, in the order of the check. */
-enum rules { FRAME, ORDER, NUMBERS, PARENTS, TARGETS, NAMES, LINKS, POINTERS, OWNERS, RULES };
+enum rules { FRAME, ORDER, NUMBERS, RELATIONS, LINKS, NAMES, POINTERS, OWNERS, RULES };
 
 extern uint8_t volume[LENGTH];
 

@@ -7,7 +7,7 @@ use mathlib.Core.List.{List}
 use Prim.Native.Nat.{ℕ, _+_, _-_, _*_, _≤_, _<_}
 use native.Mathlib.Omega.{arith}
 use lib.Dec.{ltb, eqb}
-use lib.ListN.{length, set, length-set, replicate, length-replicate}
+use lib.ListN.{length, set, length-set}
 use lib.Seq.{getD-set-same, getD-set-other}
 use borrow.Author.Tests.{not-true}
 use Rattle.words.specs.Bytes.{part, num, Bytes}
@@ -242,8 +242,9 @@ module _ (es : List Entry) (order : List ℕ) (n : ℕ) where
         pub order-put : InOrder es after (n + 1)
         order-put = record { long = i .long ∙ o .long; rows = rows-put; ascend = ascend-put; all = all-put }
 
-pub order-start : (es : List Entry) → InOrder es (replicate 4096 0) 0
-order-start es = record { long = length-replicate {A = ℕ} 4096 0; rows = λ p h. absurd (omega arith); ascend = λ p q h k. absurd (omega arith); all = λ k h. absurd (omega arith) }
+-- of no rows any array is in order
+pub order-start : (es : List Entry) (order : List ℕ) → length order ≡ 4096 → InOrder es order 0
+order-start es order e = record { long = e; rows = λ p h. absurd (omega arith); ascend = λ p q h k. absurd (omega arith); all = λ k h. absurd (omega arith) }
 
 -- ---- for the code: rows moved up, the last one first
 

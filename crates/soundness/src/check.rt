@@ -48,7 +48,8 @@ fn is_numbered(volume: &[u8], layout: Layout) -> bool
     entries_numbered(volume, layout)
 }
 
-// Whether entries and the nodes they name agree. Node rows have to ascend: they are searched.
+// Whether entries and the nodes they name agree. Node rows have to ascend: they are searched. The last counters are done with when the names
+// are looked at, and their array holds the order of these.
 fn is_related(volume: &[u8], layout: Layout) -> bool
     requires { ⌜ Ready (now volume) layout × Asc nodeBefore (shown (now volume) .names .nodes) ⌝ }
     ensures { λ r. ⌜ r ≡ related (shown (now (volume .entry)) .names) ⌝ }
@@ -61,7 +62,7 @@ fn is_related(volume: &[u8], layout: Layout) -> bool
     if !nodes_good(volume, layout, &named, &held) {
         return false;
     }
-    names_once(volume, layout)
+    names_once(volume, layout, &mut held)
 }
 
 // Whether all rules of nodes and entries hold.

@@ -97,16 +97,15 @@ fn place_name(volume: &[u8], layout: Layout, order: &mut [u16; PLACES], i: usize
     true
 }
 
-// Whether no name stands twice in a directory.
-pub fn names_once(volume: &[u8], layout: Layout) -> bool
-    requires { ⌜ Ready (now volume) layout ⌝ }
+// Whether no name stands twice in a directory. The array may hold anything: it is no longer needed for what it was.
+pub fn names_once(volume: &[u8], layout: Layout, order: &mut [u16; PLACES]) -> bool
+    requires { ⌜ Ready (now volume) layout × (length (now order) ≡ 4096) ⌝ }
     ensures { λ r. ⌜ r ≡ namesOnce (shown (now (volume .entry)) .names .entries) ⌝ }
 {
-    let mut order = [0u16; PLACES];
     let used = tables::entries_used(volume, layout);
     let mut i = 0;
     while i < used {
-        if !place_name(volume, layout, &mut order, i) {
+        if !place_name(volume, layout, order, i) {
             return false;
         }
         i += 1;

@@ -1,4 +1,3 @@
-use borrow.Author.Needs.{needs}
 use Rattle.soundness.proofs.check.is_related.Statement.{statement}
 use Rattle.soundness.proofs.check.is_related.Tie as tie
 use mathlib.Core.Path.{refl}
@@ -23,12 +22,13 @@ returns-2 c =
     go-on _ _ (call-yes (c .before .before .before .before .before .relate-entries .ensures .0) (c .before .before .before .before .if1 .left)) (stop _ _ (call-no (c .before .nodes-good .ensures) (c .if2 .taken)))
 
 names-once-requires : tie.Need-names-once-requires
-names-once-requires c κs = search needs
+names-once-requires c κs =
+    (c .before .before .before .before .before .before .before .before .before .before .pre .0, (c .before .before .before .before .before .before .relate-entries .ensures .1 (not-false _ (c .before .before .before .before .before .if1 .left))) .1 .0)
 
 returns-3 : tie.Need-returns-3
 unfolding related
 returns-3 c =
-    go-on _ _ (call-yes (c .before .before .before .before .before .before .relate-entries .ensures .0) (c .before .before .before .before .before .if1 .left)) (go-on _ _ (call-yes (c .before .before .nodes-good .ensures) (c .before .if2 .left)) (c .names-once .ensures))
+    go-on _ _ (call-yes (c .before .before .before .before .before .before .before .relate-entries .ensures .0) (c .before .before .before .before .before .before .if1 .left)) (go-on _ _ (call-yes (c .before .before .before .nodes-good .ensures) (c .before .before .if2 .left)) (c .names-once .ensures))
 
 pub is-related-spec : {M : Type 1} → statement M
 is-related-spec =

@@ -27,11 +27,11 @@ entries-used-requires c κs = search needs
 
 loop-holds : tie.Need-loop-holds Inv-loop μ-loop
 loop-holds c =
-    (search needs, upto-start (λ (j : ℕ). nameNew (shown (now (c .before .before .args .volume)) .names .entries) j), order-start (shown (now (c .before .before .args .volume)) .names .entries))
+    (search needs, upto-start (λ (j : ℕ). nameNew (shown (now (c .before .before .args .volume)) .names .entries) j), order-start (shown (now (c .before .before .args .volume)) .names .entries) _ (c .before .before .pre .1))
 
 place-name-requires : tie.Need-place-name-requires Inv-loop μ-loop
 place-name-requires c κs =
-    (c .before .before .before .before .before .pre, omega (arith, c .before .before .before .entries-used .ensures .0), c .before .before .loop .inv .2)
+    (c .before .before .before .before .before .pre .0, omega (arith, c .before .before .before .entries-used .ensures .0), c .before .before .loop .inv .2)
 
 returns : tie.Need-returns Inv-loop μ-loop
 unfolding namesOnce
