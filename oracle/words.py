@@ -14,7 +14,7 @@ import zlib
 
 SIZE = 1024
 HUGE = 2**64 - 1
-END, GET, PUT, PUT_WORDS, COPY, CLEAR, SHIFT_UP, SHIFT_DOWN, SAME, IS_ZERO, NO_FUNCTION = range(11)
+END, GET, PUT, PUT_WORDS, COPY, CLEAR, SHIFT_UP, SHIFT_DOWN, SAME, IS_ZERO, RANKS_BELOW, NO_FUNCTION = range(12)
 WIDTHS = (1, 2, 4, 8)
 WORDS = 8
 
@@ -77,11 +77,26 @@ def shift_down(v, start, end, by):
         return True
 
 
-def same(n, m, at, x):
+def two_strings(n, m, at, x):
     if n <= SIZE and m <= SIZE and at < SIZE:
         other = buffer()
         other[at] = x % 256
-        return int(buffer()[:n] == other[:m])
+        return buffer()[:n], other[:m]
+
+
+def same(*args):
+    two = two_strings(*args)
+    return two and int(two[0] == two[1])
+
+
+# shorter ones first, those of one length by the number that they spell
+def rank(string):
+    return len(string), int.from_bytes(string, "little")
+
+
+def ranks_below(*args):
+    two = two_strings(*args)
+    return two and int(rank(two[0]) < rank(two[1]))
 
 
 def is_zero(start, n, at, x):
@@ -91,7 +106,7 @@ def is_zero(start, n, at, x):
         return int(v[start : start + n] == bytes(n))
 
 
-ANSWERS = {GET: get, SAME: same, IS_ZERO: is_zero}
+ANSWERS = {GET: get, SAME: same, IS_ZERO: is_zero, RANKS_BELOW: ranks_below}
 CHANGES = {PUT: put, PUT_WORDS: put_words, COPY: copy, CLEAR: clear, SHIFT_UP: shift_up, SHIFT_DOWN: shift_down}
 
 
@@ -185,6 +200,20 @@ def comparisons():
         yield SAME, n, m, at, 0
 
 
+# a byte that is greater or less, anywhere in a block or in what is left of the first one; other lengths
+def ranks():
+    fresh = buffer()
+    for n in range(1, 35):
+        for at in {0, n // 2, n - 1, n}:
+            for x in {0, fresh[at], 255}:
+                yield RANKS_BELOW, n, n, at, x
+    for n, m in ((0, 0), (0, 1), (1, 0), (8, 7), (8, 9), (255, 254), (254, 255), (255, 255)):
+        yield RANKS_BELOW, n, m, 0, 0
+        yield RANKS_BELOW, n, m, 0, 255
+    for n, m, at in ((SIZE, SIZE, SIZE), (SIZE + 1, 0, 0), (0, SIZE + 1, 0), (8, 8, HUGE), (HUGE, HUGE, 0)):
+        yield RANKS_BELOW, n, m, at, 0
+
+
 def zeros():
     for n in range(71):
         start = 5 * n
@@ -202,7 +231,7 @@ def zeros():
 
 def main():
     folder = sys.argv[1]
-    steps = [*numbers(), *runs_of_words(), *runs_of_bytes(), *moves(), *comparisons(), *zeros(), (NO_FUNCTION,)]
+    steps = [*numbers(), *runs_of_words(), *runs_of_bytes(), *moves(), *comparisons(), *zeros(), *ranks(), (NO_FUNCTION,)]
     steps = list(dict.fromkeys(steps))
     lines = [" ".join("%x" % x for x in step) for step in [*steps, (END,)]]
     with open(os.path.join(folder, "stdin"), "w") as out:

@@ -31,6 +31,8 @@ const SAME: u64 = 8;
 
 const IS_ZERO: u64 = 9;
 
+const RANKS_BELOW: u64 = 10;
+
 // A line of PUT_WORDS has an index, how many words count, and then this many words.
 const WORDS: usize = 8;
 
@@ -87,7 +89,7 @@ fn arguments(op: u64) -> usize
     match op {
         GET | CLEAR => 2,
         PUT | COPY | SHIFT_UP | SHIFT_DOWN => 3,
-        SAME | IS_ZERO => 4,
+        SAME | IS_ZERO | RANKS_BELOW => 4,
         PUT_WORDS => MOST_ARGUMENTS,
         _ => 0,
     }
@@ -133,7 +135,7 @@ fn run(v: &mut [u8], w: &mut [u8], op: u64, args: &[u64; MOST_ARGUMENTS]) -> Ste
     let c = args[2] as usize;
     match op {
         GET => get(v, a, b),
-        SAME => same(v, a, w, b, c, args[3]),
+        SAME | RANKS_BELOW => compared(v, a, w, b, c, args[3], op),
         IS_ZERO => is_zero(v, a, b, c, args[3]),
         _ => {
             if change(v, w, op, args) {
@@ -256,8 +258,9 @@ fn shift_down(v: &mut [u8], from: usize, to: usize, by: usize) -> bool {
     true
 }
 
-// The first n bytes of v, and the first m of the same pattern in w, where the byte at index at is x.
-fn same(v: &[u8], n: usize, w: &mut [u8], m: usize, at: usize, x: u64) -> StepResult {
+// The first n bytes of v next to the first m of the same pattern in w, where the byte at index at is x: whether they are the same, or the
+// former rank below the latter.
+fn compared(v: &[u8], n: usize, w: &mut [u8], m: usize, at: usize, x: u64, op: u64) -> StepResult {
     if v.len() < n {
         return StepResult::Outside;
     }
@@ -269,7 +272,10 @@ fn same(v: &[u8], n: usize, w: &mut [u8], m: usize, at: usize, x: u64) -> StepRe
     }
     fill(w, BUFFER_STEP);
     words::put8(w, at, x);
-    said(words::same(&v[..n], &w[..m]))
+    if op == SAME {
+        return said(words::same(&v[..n], &w[..m]));
+    }
+    said(words::ranks_below(&v[..n], &w[..m]))
 }
 
 // n bytes of zeros, where the byte at index at is x.

@@ -1,5 +1,6 @@
 //! A volume with one broken byte: every call refuses it, and leaves every byte. And the last pointer
-//! that a volume may have: it stands once, in a row or free.
+//! that a volume may have: it stands once, in a row or free. And a name: once in a directory,
+//! wherever it stands there.
 
 use lentilraft::{ChunkSize, Error, Expected, Kind, Node, Result, Rooms, Volume, ROOT};
 
@@ -18,6 +19,18 @@ const GREATEST: Rooms = Rooms {
 const CHUNK: u64 = 4096;
 /// The last chunk row of a volume with `GREATEST`.
 const LAST_ROW: usize = FREE_WORDS + 8 * 4096 + 40 * 2 + 280 + 24 * 4095;
+
+/// Room for two directories with `NAMES` each.
+const MANY: Rooms = Rooms {
+    nodes: 67,
+    entries: 66,
+    chunks: 1,
+};
+const NAMES: usize = 32;
+/// The rows of entries of a volume with `MANY`, and where one has its name, with the length before it.
+const MANY_ROWS: usize = FREE_WORDS + 8 + 40 * 67;
+const ROW: usize = 280;
+const NAME: usize = 20;
 
 type Call = fn(&mut Owned) -> Result<()>;
 
@@ -186,4 +199,48 @@ fn the_last_pointer_that_a_volume_may_have_is_free_once() {
     assert_eq!(volume.check(), Ok(()));
     volume = with_bytes(volume, FREE_WORDS, &0u64.to_le_bytes());
     assert_eq!(volume.check(), Err(Error::UnsoundMemory), "the first row's");
+}
+
+/// One of `NAMES` that differ: of three lengths, in no order, and anywhere in the bytes.
+fn name(i: usize) -> Vec<u8> {
+    let length = [1, 9, 255][i % 3];
+    let mut name = vec![b'x'; length];
+    name[i * 7 % length] = b'A' + (i * 11 % NAMES) as u8;
+    name
+}
+
+/// The same names in two directories, whose entries stand behind those of the root.
+fn many_names() -> Owned {
+    let bytes = vec![0xa5; MANY.length_for(ChunkSize::K4) as usize];
+    let mut volume = Volume::new(bytes, MANY, ChunkSize::K4).unwrap();
+    for folder in [b"a", b"b"] {
+        let folder = volume.create(ROOT, folder, Kind::Directory).unwrap();
+        for i in 0..NAMES {
+            volume.create(folder, &name(i), Kind::File).unwrap();
+        }
+    }
+    volume
+}
+
+#[test]
+fn a_name_stands_once_in_a_directory_wherever_it_stands() {
+    let mut volume = many_names();
+    assert_eq!(volume.check(), Ok(()));
+    let row = |folder, i| MANY_ROWS + ROW * (2 + NAMES * folder + i) + NAME;
+    for (folder, i, j) in pairs() {
+        let taken = volume.bytes()[row(folder, j)..][..ROW - NAME].to_vec();
+        let other = volume.bytes()[row(folder, i)..][..ROW - NAME].to_vec();
+        volume = with_bytes(volume, row(folder, j), &other);
+        assert_eq!(volume.check(), Err(Error::UnsoundMemory), "{} as {}", j, i);
+        volume = with_bytes(volume, row(folder, j), &taken);
+    }
+    assert_eq!(volume.check(), Ok(()));
+}
+
+/// Every two entries of each of the directories.
+fn pairs() -> impl Iterator<Item = (usize, usize, usize)> {
+    let entries = (0..2).flat_map(|folder| (0..NAMES).map(move |i| (folder, i)));
+    entries
+        .flat_map(|(folder, i)| (0..NAMES).map(move |j| (folder, i, j)))
+        .filter(|(_, i, j)| i != j)
 }
