@@ -1,4 +1,6 @@
 // The chunk pointer allocator, on its words alone: a part of the volume that starts in its middle.
+#![tactic(auto)]
+
 mod opening;
 
 ghost use Rattle.std.specs.Prelude.{◌≡◌, ◌+◌, ◌-◌, ◌*◌, ◌≤◌, ◌<◌, length};
@@ -27,7 +29,7 @@ const LEAST_SHIFT: u32 = 12;
 
 const MOST_SHIFT: u32 = 16;
 
-#[derive(Drop)]
+#[derive(Clone, Copy)]
 pub enum Popped {
     Pointer(u64),
     Nothing,

@@ -30,7 +30,7 @@ const NEXT_POINTER: usize = 24;
 const FIRST_POINTER: usize = 128;
 
 // What is read of the text so far.
-#[derive(Drop)]
+#[derive(Clone, Copy)]
 struct RunTotals {
     next: usize,
     runs: usize,
@@ -38,7 +38,7 @@ struct RunTotals {
 }
 
 // What is read of a run so far. The first step that differs, where there is one, counts from 1.
-#[derive(Drop)]
+#[derive(Clone, Copy)]
 struct Progress {
     next: usize,
     steps: usize,
@@ -46,7 +46,7 @@ struct Progress {
 }
 
 // The first line of a run up to its words, and how many bytes its part has.
-#[derive(Drop)]
+#[derive(Clone, Copy)]
 struct Head {
     name: u64,
     bytes: usize,
@@ -54,7 +54,7 @@ struct Head {
 }
 
 // A step up to its words. Where a call has no argument or no answer, that is 0.
-#[derive(Drop)]
+#[derive(Clone, Copy)]
 struct AllocatorCall {
     name: u64,
     argument: u64,
@@ -62,7 +62,7 @@ struct AllocatorCall {
     next: usize,
 }
 
-#[derive(Drop)]
+#[derive(Clone, Copy)]
 enum StepAnswer {
     Answer(u64),
     Forbidden,

@@ -27,21 +27,21 @@ const MOST_INDEX: u64 = 4_294_967_295;
 const MOST_NODE: u64 = 18_446_744_073_709_551_615;
 
 // The row of a directory that a name may be put into, or why not.
-#[derive(Drop)]
+#[derive(Clone, Copy)]
 enum ParentRow {
     At(RowAt),
     Refused(Error),
 }
 
 // Where a new entry goes, and its index.
-#[derive(Drop)]
+#[derive(Clone, Copy)]
 struct Spot {
     place: usize,
     index: u64,
 }
 
 // A spot for an entry of a new name, or why there is none.
-#[derive(Drop)]
+#[derive(Clone, Copy)]
 enum NewSpot {
     At(Spot),
     Refused(Error),

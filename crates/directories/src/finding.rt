@@ -17,7 +17,7 @@ use types::{Answer, Error, FileType};
 use volume::Layout;
 
 // The node that parts lead to, and the place of the entry that names it last (0 where there was no part); or why they lead nowhere.
-#[derive(Drop)]
+#[derive(Clone, Copy)]
 pub enum Reached {
     At(u64, usize),
     Stopped(Error),

@@ -1,4 +1,6 @@
 // Directories of a sound volume: names looked up, listed, put in and taken out.
+#![tactic(auto)]
+
 mod entering;
 mod finding;
 mod listing;

@@ -11,7 +11,7 @@ use types::{Answer, Error};
 use volume::Layout;
 
 // The place of the next entry, or why there is none.
-#[derive(Drop)]
+#[derive(Clone, Copy)]
 pub enum NextPlace {
     At(usize),
     Refused(Error),

@@ -18,7 +18,7 @@ const NO_INDEX: u64 = 0;
 
 // The place of the entry that has a name; that none has it; or the place of the first entry that was not looked at. Each with how many were
 // looked at, the one that has the name included.
-#[derive(Drop)]
+#[derive(Clone, Copy)]
 pub enum Searched {
     At(usize, usize),
     Absent(usize),

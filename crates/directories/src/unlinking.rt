@@ -17,7 +17,7 @@ use volume::Layout;
 const ONE_NAME: u64 = 1;
 
 // Whether an entry may go, or why not.
-#[derive(Drop)]
+#[derive(Clone, Copy)]
 pub enum Verdict {
     Goes,
     Refused(Error),

@@ -11,14 +11,14 @@ use types::{Error, NodeRecord};
 use volume::Layout;
 
 // A row of the node table, and its place in it.
-#[derive(Drop)]
+#[derive(Clone, Copy)]
 pub struct RowAt {
     pub place: usize,
     pub row: NodeRecord,
 }
 
 // The row of a file, or why there is none.
-#[derive(Drop)]
+#[derive(Clone, Copy)]
 pub enum FileRow {
     At(RowAt),
     Refused(Error),

@@ -1,5 +1,7 @@
 // Files of a sound volume: their bytes read, written, cut and extended, chunk by chunk, and their limits. The layout is the
 // check's; the chunk size is read once a call and handed on, and so is the place of a row that was searched for.
+#![tactic(auto)]
+
 mod chunks;
 mod cutting;
 mod files;

@@ -20,7 +20,7 @@ use types::{Answer, Error};
 use volume::Layout;
 
 // What of the bytes falls into a chunk: from which byte of the chunk, from which of the bytes, how many.
-#[derive(Drop)]
+#[derive(Clone, Copy)]
 struct ChunkPiece {
     from: usize,
     start: usize,

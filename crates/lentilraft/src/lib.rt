@@ -1,5 +1,7 @@
 // The public calls on a volume. Each opens the memory first, and refuses it with 1 if it is not sound; no call asks anything of its
 // caller.
+#![tactic(auto)]
+
 mod naming;
 mod text;
 

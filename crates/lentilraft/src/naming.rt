@@ -9,7 +9,7 @@ use types::{Answer, Error, Expected, Search};
 use volume::Place;
 
 // Where an entry's name stands in the volume, and what the entry says.
-#[derive(Drop)]
+#[derive(Clone, Copy)]
 pub struct NameAt {
     pub at: usize,
     pub long: usize,
@@ -18,14 +18,14 @@ pub struct NameAt {
 }
 
 // The next entry of a directory, or why there is none.
-#[derive(Drop)]
+#[derive(Clone, Copy)]
 pub enum NextName {
     At(NameAt),
     Refused(Error),
 }
 
 // What a byte says of the kind that unlink is to expect, if anything.
-#[derive(Drop)]
+#[derive(Clone, Copy)]
 pub enum Wanted {
     Known(Expected),
     Unknown,

@@ -10,7 +10,7 @@ use paths::Cut;
 const PATH: u64 = 1;
 
 // What is read of the text so far, and whether all of it agrees.
-#[derive(Drop)]
+#[derive(Clone, Copy)]
 struct Totals {
     next: usize,
     paths: usize,
@@ -19,7 +19,7 @@ struct Totals {
 }
 
 // What is read of a line, whether its path is refused (0 or 1), and whether it agrees.
-#[derive(Drop)]
+#[derive(Clone, Copy)]
 struct Line {
     next: usize,
     refused: usize,
@@ -27,7 +27,7 @@ struct Line {
 }
 
 // Where the text goes on behind parts, and whether they agree.
-#[derive(Drop)]
+#[derive(Clone, Copy)]
 struct Compared {
     next: usize,
     agrees: bool,

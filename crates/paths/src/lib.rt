@@ -1,4 +1,6 @@
 // Cutting a path into parts, and which names are allowed. Bytes are compared as they stand.
+#![tactic(auto)]
+
 ghost use Rattle.std.specs.Prelude.{◌≡◌, ◌+◌, ◌-◌, ◌*◌, ◌<◌, ◌≤◌, length, get_or, eqb};
 ghost use Rattle.words.specs.Rules.{bit};
 ghost use Rattle.types.specs.Sizes.{most_path};
@@ -11,7 +13,7 @@ use types::{Answer, Error};
 
 // What cutting a path gives: the number of its parts, and whether its last piece was empty, `.` or `..` with a part left
 // (the path then means a directory); or the refusal.
-#[derive(Drop)]
+#[derive(Clone, Copy)]
 pub enum Cut {
     Parts(usize, bool),
     NotPermitted,
@@ -19,14 +21,14 @@ pub enum Cut {
 }
 
 // A piece between slashes: where the next one starts, behind its slash, and how many of its bytes are dots.
-#[derive(Drop)]
+#[derive(Clone, Copy)]
 struct Piece {
     next: usize,
     dots: usize,
 }
 
 // What a piece is: empty or `.`, `..`, or a name.
-#[derive(Drop)]
+#[derive(Clone, Copy)]
 enum Sort {
     Dropped,
     Upward,
@@ -34,7 +36,7 @@ enum Sort {
 }
 
 // The parts so far and whether the last piece was no name; or `..` with no part before it.
-#[derive(Drop)]
+#[derive(Clone, Copy)]
 enum Turn {
     Next(usize, bool),
     Barred,

@@ -45,7 +45,7 @@ const LETTERS: u64 = 4;
 const DIGITS: u64 = 32;
 
 // What is drawn for one call. The last number is what the next call is drawn from.
-#[derive(Drop)]
+#[derive(Clone, Copy)]
 pub(crate) struct Draw {
     pub kind: u64,
     pub node: u64,
@@ -55,7 +55,7 @@ pub(crate) struct Draw {
     pub text: u64,
 }
 
-#[derive(Drop)]
+#[derive(Clone, Copy)]
 pub(crate) enum Kind {
     Read,
     Write,

@@ -15,7 +15,7 @@ const SEQUENCE: u64 = 1;
 const FIELDS: usize = 7;
 
 // Length: the memory's. Nodes, entries and chunks: what the tables have room for. Span: the chunk size. Next: the index behind the line's numbers.
-#[derive(Drop)]
+#[derive(Clone, Copy)]
 struct Sequence {
     seed: u64,
     calls: u64,

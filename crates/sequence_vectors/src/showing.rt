@@ -7,7 +7,7 @@ use types::{Answer, FileType, Limit, NodeRecord, Search};
 use volume::{Layout, Place};
 
 // An entry that was asked for: the number of the answer, a number that tells index, node and name, and the least index behind it.
-#[derive(Drop)]
+#[derive(Clone, Copy)]
 struct Listed {
     number: u32,
     told: u64,

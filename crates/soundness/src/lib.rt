@@ -1,5 +1,7 @@
 // Whether a memory is a sound volume. Module frame tests the form of the bytes, the others have a function for each rule of the tables,
 // and check calls them in turn.
+#![tactic(auto)]
+
 mod check;
 mod entries;
 mod frame;

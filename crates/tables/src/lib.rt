@@ -1,5 +1,7 @@
 // The three tables and the allocator of a volume that is laid out: rows found, put in, taken out and changed, pointers given out and taken back.
 // Used counts in the header move with the rows. Each function says what it makes of the volume, and that all else stays.
+#![tactic(auto)]
+
 mod chunks;
 mod entries;
 mod header;
@@ -22,7 +24,7 @@ pub use nodes::{
 pub use pointers::{allocate, chunk_size, free, free_count, max_ptr, set_chunk_size};
 
 // The row in which a node stands, if there is one.
-#[derive(Drop)]
+#[derive(Clone, Copy)]
 pub enum Found {
     At(usize),
     Nothing,

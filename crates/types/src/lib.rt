@@ -1,4 +1,6 @@
 // The records and answers that every crate speaks of, and the scope's numbers for them.
+#![tactic(auto)]
+
 ghost use Rattle.std.specs.Prelude.{◌≡◌, ◌≤◌};
 ghost use Rattle.types.specs.Answers.{error_number, number, value};
 ghost use Rattle.types.specs.Nodes.{is_directory, is_unlimited, limit_word, file_limit};
@@ -30,7 +32,7 @@ pub const MOST_PATH: usize = 4096;
 
 pub const MOST_PARTS: usize = 2048;
 
-#[derive(Drop)]
+#[derive(Clone, Copy)]
 pub enum FileType {
     Directory,
     RegularFile,
@@ -38,13 +40,13 @@ pub enum FileType {
 }
 
 // Either no size limit or one limit.
-#[derive(Drop)]
+#[derive(Clone, Copy)]
 pub enum Limit {
     Unlimited,
     AtMost(u64),
 }
 
-#[derive(Drop)]
+#[derive(Clone, Copy)]
 pub struct NodeRecord {
     pub node: u64,
     pub kind: FileType,
@@ -54,7 +56,7 @@ pub struct NodeRecord {
 }
 
 // What unlink may be told to expect.
-#[derive(Drop)]
+#[derive(Clone, Copy)]
 pub enum Expected {
     Any,
     Directory,
@@ -62,7 +64,7 @@ pub enum Expected {
 }
 
 // The refusals, in the order of their numbers.
-#[derive(Drop)]
+#[derive(Clone, Copy)]
 pub enum Error {
     UnsoundMemory,
     NoSuchEntry,
@@ -81,7 +83,7 @@ pub enum Error {
     OutputTooShort,
 }
 
-#[derive(Drop)]
+#[derive(Clone, Copy)]
 pub enum Answer {
     Done(u64),
     Refused(Error),
@@ -89,7 +91,7 @@ pub enum Answer {
 
 // What a search that may stop answers: the index and the node of the entry that has the name; that none has it; or the index of the first
 // entry that was not looked at. Each with the number looked at.
-#[derive(Drop)]
+#[derive(Clone, Copy)]
 pub enum Search {
     Found(u32, u64, u64),
     Absent(u64),

@@ -10,7 +10,7 @@ pub const MEMORY: usize = 1_572_864;
 pub const BUFFER: usize = 262_144;
 
 // The numbers of a line: which call, and four more. What each means depends on the call. Next: the index behind them.
-#[derive(Drop)]
+#[derive(Clone, Copy)]
 pub struct Call {
     pub name: u64,
     pub node: u64,

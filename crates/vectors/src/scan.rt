@@ -9,7 +9,7 @@ const BASE: u64 = 16;
 const TOP: u64 = 1_152_921_504_606_846_976;
 
 // A number, and the index behind it.
-#[derive(Drop)]
+#[derive(Clone, Copy)]
 pub struct Scan {
     pub value: u64,
     pub next: usize,

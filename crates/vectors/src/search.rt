@@ -12,7 +12,7 @@ const FOUND: u64 = 1;
 const STOPPED: u64 = 2;
 
 // The number of the answer, what came of the search, an index, a node, and how many entries were looked at.
-#[derive(Drop)]
+#[derive(Clone, Copy)]
 pub struct SearchNumbers {
     pub number: u64,
     pub case: u64,

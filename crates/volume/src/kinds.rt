@@ -5,7 +5,7 @@ ghost use Rattle.volume.specs.Kinds.{kind_of, kind_byte, limit_of, limit_flag};
 use types::{FileType, Limit};
 
 // What a type byte means, if anything.
-#[derive(Drop)]
+#[derive(Clone, Copy)]
 pub enum Kind {
     Known(FileType),
     Unknown,

@@ -1,4 +1,6 @@
 // The volume's tables in lent bytes: where they stand, their rows, and a new volume.
+#![tactic(auto)]
+
 mod chunks;
 mod entries;
 mod fresh;
@@ -46,7 +48,7 @@ pub const ENTRY_ROW: usize = 280;
 pub const CHUNK_ROW: usize = 24;
 
 // A row of the chunk table: chunk index of node stands at pointer in the chunk area.
-#[derive(Drop)]
+#[derive(Clone, Copy)]
 pub struct ChunkRow {
     pub node: u64,
     pub index: u64,
@@ -54,7 +56,7 @@ pub struct ChunkRow {
 }
 
 // Where each area starts.
-#[derive(Drop)]
+#[derive(Clone, Copy)]
 pub struct Layout {
     pub nodes: usize,
     pub entries: usize,
@@ -63,7 +65,7 @@ pub struct Layout {
 }
 
 // Where the areas of a memory start, if it can be a volume.
-#[derive(Drop)]
+#[derive(Clone, Copy)]
 pub enum Place {
     At(Layout),
     Nowhere,

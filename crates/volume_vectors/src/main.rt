@@ -21,7 +21,7 @@ const NAMED_WORDS: usize = 4;
 
 const NODE_WORDS: usize = volume::NODE_ROW / types::WORD;
 
-#[derive(Drop)]
+#[derive(Clone, Copy)]
 struct Case {
     nodes: u64,
     entries: u64,

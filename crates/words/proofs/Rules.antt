@@ -252,6 +252,10 @@ is-yes e h = rw (← e) (eq-eqb _ _ h)
 pub is-no : {x y b : ℕ} → x ≡ y → (x ≡ b → ⊥) → eqb y b ≡ false
 is-no e h = rw (← e) (ne_eqb _ _ h)
 
+-- what a call answered is what it was tested to be
+pub told : {A : Type 0} {r a b : A} → r ≡ a → r ≡ b → a ≡ b
+told e h = sym e ∙ h
+
 -- `if !f(..) { return false; }`
 pub call-no : {r a : Bool} → r ≡ a → not r ≡ true → a ≡ false
 call-no e h = sym e ∙ not-true _ h

@@ -1,6 +1,6 @@
 -- Laws of `table`, `lay_all`, `area` and `joined`: rows that are laid out are read back, and what an insert, a removal or a write of one row does to the bytes.
 -- Assumes nothing.
-use mathlib.Core.Path.{◌≡◌, refl, sym, ap, ◌∙◌}
+use mathlib.Core.Path.{◌≡◌, refl, sym, ap, ◌∙◌, subst}
 use mathlib.Core.List.{List, [], ◌∷◌, ◌++◌, append_assoc, append-nil}
 use Prim.Native.Nat.{ℕ, zero, suc, ◌+◌, ◌-◌, ◌*◌, ◌^◌, ◌≤◌, ◌<◌}
 use native.Mathlib.Nat.{suc-add, add-zero, zero-add, add_comm, mul-add, mul-zero, mul-suc, sub_self, sub-zero, not-suc-le-zero, le_of_suc-le-suc}
@@ -40,7 +40,9 @@ module _ {R : Type 0} (read : List ℕ → R) (lay : R → List ℕ) (s : ℕ) (
       let p : part (A ++ ((lay r ++ lay_all lay rs) ++ C)) at s ≡ lay r = rw append_assoc (part-mid A (lay r) (lay_all lay rs ++ C) at s e (sized r)) in
       let q : length (A ++ lay r) ≡ at + s = rw (length-append, e, sized r) in
       let k : table read s ((A ++ lay r) ++ (lay_all lay rs ++ C)) (at + s) (length rs) ≡ rs = table-lay (A ++ lay r) rs C (at + s) q h.1 in
-      rw (p, h.0) (ap (λ (t : List R). r ∷ t) (simp append_assoc (simp append_assoc at k)))
+      let m : (A ++ lay r) ++ (lay_all lay rs ++ C) ≡ A ++ ((lay r ++ lay_all lay rs) ++ C) = simp append_assoc in
+      let P : List ℕ → Type 0 = λ l. table read s l (at + s) (length rs) ≡ rs in
+      rw (p, h.0) (ap (λ (t : List R). r ∷ t) (subst P m k))
 
 module _ {R : Type 0} (lay : R → List ℕ) (s : ℕ) (sized : (r : R) → length (lay r) ≡ s) where
   -- at the rows before the new ones and those behind them

@@ -1,5 +1,7 @@
 // Numbers and runs of bytes in lent bytes, little-endian as the volume is.
 // The contracts speak of the bytes as lists: `part`, `over`, `num`, `spell` and `zeros` of specs/Bytes.antt.
+#![tactic(auto)]
+
 mod compare;
 mod dividing;
 mod moves;

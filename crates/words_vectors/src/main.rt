@@ -47,7 +47,7 @@ const BUFFER_STEP: u64 = 7;
 
 const SOURCE_STEP: u64 = 11;
 
-#[derive(Drop)]
+#[derive(Clone, Copy)]
 enum StepResult {
     Number(u64),
     Outside,

@@ -1,0 +1,7 @@
+use mathlib.Core.Path.{◌∙◌}
+use Prim.Native.Nat.{◌-◌}
+use Rattle.allocator.proofs.push_ptr.Goals as goal
+
+pub returns : goal.returns
+returns c =
+    c.put64-2.ensures ∙ (rw (c.put64.ensures, c.get_len-len.ensures))

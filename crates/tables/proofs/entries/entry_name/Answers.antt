@@ -1,0 +1,17 @@
+use mathlib.Core.Path.{refl, ap, ◌∙◌}
+use native.Mathlib.Omega.{arith}
+use Rattle.tables.proofs.ReadyVolume.{rooms, count_entries, name-there}
+use Rattle.tables.proofs.ReadyTables.{entry-table, row-there}
+use Rattle.tables.proofs.entries.entry_name.Goals as goal
+
+pub overflow_add-base : goal.overflow_add-base
+overflow_add-base c =
+    omega (arith, (rooms c.args.volume.now c.args.layout c.requires.0))
+
+pub entry_name-requires : goal.entry_name-requires
+entry_name-requires c =
+    (omega (arith, (rooms c.args.volume.now c.args.layout c.requires.0), c.requires.1, count_entries c.args.volume.now), name-there c.args.volume.now c.args.layout c.requires.0 c.args.place c.requires.1)
+
+pub returns : goal.returns
+returns c =
+    c.entry_name.ensures ∙ ap (λ e. e.name) (row-there (entry-table c.args.volume.now c.args.layout c.requires.0) c.args.place c.requires.1 refl)

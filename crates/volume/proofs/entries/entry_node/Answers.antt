@@ -1,0 +1,7 @@
+use mathlib.Core.Path.{sym, ◌∙◌}
+use Rattle.volume.proofs.RowFields.{entry-numbers}
+use Rattle.volume.proofs.entries.entry_node.Goals as goal
+
+pub returns : goal.returns
+returns c =
+    c.get64.ensures ∙ sym (entry-numbers c.args.volume.now c.args.at).1

@@ -1,0 +1,19 @@
+use Rattle.types.specs.declared.FileType.TheVariants.{Directory, RegularFile, SymbolicLink}
+use Rattle.volume.proofs.KindBytes.{is_known_lem, is-unknown}
+use Rattle.volume.proofs.kinds.kind_of.Goals as goal
+
+pub returns-in-0 : goal.returns-in-0
+returns-in-0 c =
+    is_known_lem Directory c.in-0.is
+
+pub returns-in-1 : goal.returns-in-1
+returns-in-1 c =
+    is_known_lem RegularFile c.in-1.is
+
+pub returns-in-2 : goal.returns-in-2
+returns-in-2 c =
+    is_known_lem SymbolicLink c.in-2.is
+
+pub returns-in-3-to-255 : goal.returns-in-3-to-255
+returns-in-3-to-255 c =
+    is-unknown _ c.in-3-to-255.in-3-to-255-own.rest.0.0.1 c.in-3-to-255.in-3-to-255-own.rest.0.1 c.in-3-to-255.in-3-to-255-own.rest.1
