@@ -18,7 +18,7 @@ piece_size-n-requires c =
 
 pub read_piece-place-requires : goal.read_piece-place-requires
 read_piece-place-requires c =
-    ((c.requires.0, c.requires.1, c.requires.2), piece-asked (shown c.args.volume.now).store c.args.node c.args.offset c.args.buffer.now c.loop-done.invariant c.loop-done-test.true c.requires.1 c.piece_size-n.ensures)
+    record { ready = (c.requires.0, c.requires.1, c.requires.2); place_value = piece-asked (shown c.args.volume.now).store c.args.node c.args.offset c.args.buffer.now c.loop-done.invariant c.loop-done-test.true c.requires.1 c.piece_size-n.ensures }
 
 pub loop-done-smaller : goal.loop-done-smaller
 loop-done-smaller c =

@@ -29,7 +29,7 @@ overflow_add-place c =
 
 pub write_chunk-gap-requires : goal.write_chunk-gap-requires
 write_chunk-gap-requires c =
-    (chunk-asked c.loop-i.invariant.0 c.loop-i-test.true, chunk-touched c.loop-i.invariant.0 c.loop-i-test.true c.requires.3)
+    record { gapped = chunk-asked c.loop-i.invariant.0 c.loop-i-test.true; offset_bound = chunk-touched c.loop-i.invariant.0 c.loop-i-test.true c.requires.3 }
 
 pub loop-i-preserved : goal.loop-i-preserved
 loop-i-preserved c =

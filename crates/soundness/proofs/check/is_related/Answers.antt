@@ -1,5 +1,3 @@
-use mathlib.Core.Bool.{not}
-use mathlib.Core.Path.{ap}
 use mathlib.Core.Path.{refl}
 use Rattle.words.proofs.Rules.{told, stop, go_on}
 use Rattle.soundness.specs.Checked.{related}
@@ -16,7 +14,7 @@ returns-then-not-relate_entries c =
 
 pub nodes_good-requires : goal.nodes_good-requires
 nodes_good-requires c =
-    (c.requires.0, (c.relate_entries.ensures.1 (ap not c.if-not-relate_entries.false)).0, (c.relate_entries.ensures.1 (ap not c.if-not-relate_entries.false)).1)
+    (c.requires.0, (c.relate_entries.ensures.1 c.if-not-relate_entries.false).0, (c.relate_entries.ensures.1 c.if-not-relate_entries.false).1)
 
 pub returns-then-not-nodes_good : goal.returns-then-not-nodes_good
 unfolding related
@@ -25,7 +23,7 @@ returns-then-not-nodes_good c =
 
 pub names_once-requires : goal.names_once-requires
 names_once-requires c =
-    (c.requires.0, (c.relate_entries.ensures.1 (ap not c.if-not-relate_entries.false)).1.0)
+    (c.requires.0, (c.relate_entries.ensures.1 c.if-not-relate_entries.false).1.0)
 
 pub returns : goal.returns
 unfolding related

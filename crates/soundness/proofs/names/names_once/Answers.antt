@@ -1,5 +1,3 @@
-use mathlib.Core.Bool.{not}
-use mathlib.Core.Path.{ap}
 use borrow.Author.Rules.{rules}
 use mathlib.Core.Bool.{true}
 use Prim.Native.Nat.{ℕ, ◌-◌}
@@ -27,7 +25,7 @@ returns-then-not-place_name c =
 
 pub loop-i-preserved : goal.loop-i-preserved
 loop-i-preserved c =
-    (omega arith, upto_turn (λ (j : ℕ). name_new (shown c.args.volume.now).names.entries j) c.loop-i.i c.loop-i.invariant.1 (told c.place_name.ensures.0 c.if-not-place_name.false), c.place_name.ensures.1 (ap not c.if-not-place_name.false))
+    (omega arith, upto_turn (λ (j : ℕ). name_new (shown c.args.volume.now).names.entries j) c.loop-i.i c.loop-i.invariant.1 (told c.place_name.ensures.0 c.if-not-place_name.false), c.place_name.ensures.1 c.if-not-place_name.false)
 
 pub returns : goal.returns
 unfolding names_once

@@ -1,5 +1,3 @@
-use mathlib.Core.Bool.{not}
-use mathlib.Core.Path.{ap}
 use mathlib.Core.Path.{sym, ◌∙◌}
 use mathlib.Core.Bool.{false≢true}
 use native.Mathlib.Omega.{arith}
@@ -18,4 +16,4 @@ put_in-requires c =
 
 pub returns : goal.returns
 returns c =
-    (sym c.if-not-name_new.false ∙ c.name_new.ensures.0, λ t. order-put (shown c.args.volume.now).names.entries c.args.order.now c.args.i c.requires.2 c.seek_name-place.result c.seek_name-place.ensures _ (c.name_new.ensures.1 (ap not c.if-not-name_new.false)) c.put_in.ensures)
+    (sym c.if-not-name_new.false ∙ c.name_new.ensures.0, λ t. order-put (shown c.args.volume.now).names.entries c.args.order.now c.args.i c.requires.2 c.seek_name-place.result c.seek_name-place.ensures _ (c.name_new.ensures.1 c.if-not-name_new.false) c.put_in.ensures)

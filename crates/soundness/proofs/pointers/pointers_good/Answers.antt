@@ -1,5 +1,3 @@
-use mathlib.Core.Bool.{not}
-use mathlib.Core.Path.{ap}
 use native.Mathlib.Omega.{arith}
 use lib.ListN.{length}
 use Rattle.words.proofs.Rules.{told, stop, go_on}
@@ -41,7 +39,7 @@ mark_free-requires c =
 pub returns-then-not-mark_free : goal.returns-then-not-mark_free
 unfolding pointers_good
 returns-then-not-mark_free c =
-    go_on _ _ (told c.mark_rows.ensures.0 c.if-not-mark_rows.false) (stop _ _ (told ((free-marked c.args.volume.now c.args.layout c.requires.0 c.args.span c.args.next (marks_after c.args.span (row_pointer ((shown c.args.volume.now).store.chunks)) (length ((shown c.args.volume.now).store.chunks)) unmarked) (c.mark_rows.ensures.1 (ap not c.if-not-mark_rows.false)) c.free_count-count.ensures.0 c.mark_free.ensures.0)) c.if-not-mark_free.true))
+    go_on _ _ (told c.mark_rows.ensures.0 c.if-not-mark_rows.false) (stop _ _ (told ((free-marked c.args.volume.now c.args.layout c.requires.0 c.args.span c.args.next (marks_after c.args.span (row_pointer ((shown c.args.volume.now).store.chunks)) (length ((shown c.args.volume.now).store.chunks)) unmarked) (c.mark_rows.ensures.1 c.if-not-mark_rows.false) c.free_count-count.ensures.0 c.mark_free.ensures.0)) c.if-not-mark_free.true))
 
 pub chunks_used-requires : goal.chunks_used-requires
 chunks_used-requires c =
@@ -50,4 +48,4 @@ chunks_used-requires c =
 pub returns : goal.returns
 unfolding pointers_good
 returns c =
-    go_on _ _ (told c.mark_rows.ensures.0 c.if-not-mark_rows.false) (go_on _ _ (told ((free-marked c.args.volume.now c.args.layout c.requires.0 c.args.span c.args.next (marks_after c.args.span (row_pointer ((shown c.args.volume.now).store.chunks)) (length ((shown c.args.volume.now).store.chunks)) unmarked) (c.mark_rows.ensures.1 (ap not c.if-not-mark_rows.false)) c.free_count-count.ensures.0 c.mark_free.ensures.0)) c.if-not-mark_free.false) (as_many c.args.volume.now c.args.layout c.requires.0 _ c.chunks_used.ensures.0 c.free_count-count.ensures.0 c.quotient.ensures))
+    go_on _ _ (told c.mark_rows.ensures.0 c.if-not-mark_rows.false) (go_on _ _ (told ((free-marked c.args.volume.now c.args.layout c.requires.0 c.args.span c.args.next (marks_after c.args.span (row_pointer ((shown c.args.volume.now).store.chunks)) (length ((shown c.args.volume.now).store.chunks)) unmarked) (c.mark_rows.ensures.1 c.if-not-mark_rows.false) c.free_count-count.ensures.0 c.mark_free.ensures.0)) c.if-not-mark_free.false) (as_many c.args.volume.now c.args.layout c.requires.0 _ c.chunks_used.ensures.0 c.free_count-count.ensures.0 c.quotient.ensures))
