@@ -1,5 +1,7 @@
 // The public calls for programs in C or Rust. Each function here is a call and the scope's numbers of its answer, and nothing else: it asks
 // nothing of its caller, and gives back 0 or the number of a refusal.
+#![tactic(auto)]
+
 ghost use Rattle.std.specs.Prelude.{◌≡◌};
 ghost use Rattle.types.specs.declared.Limit.TheVariants.{Unlimited, AtMost};
 ghost use Rattle.types.specs.Answers.{number};
@@ -21,8 +23,7 @@ const FOUND: u32 = 1;
 const STOPPED: u32 = 2;
 
 // Makes the memory a new volume with these rooms and this chunk size.
-#[unsafe(no_mangle)]
-pub extern "C" fn lentilraft_new_volume(
+pub fn lentilraft_new_volume(
     volume: &mut [u8],
     nodes: u64,
     entries: u64,
@@ -35,32 +36,28 @@ pub extern "C" fn lentilraft_new_volume(
 }
 
 // Whether the memory is a sound volume: 0, or 1.
-#[unsafe(no_mangle)]
-pub extern "C" fn lentilraft_check(volume: &[u8]) -> u32
+pub fn lentilraft_check(volume: &[u8]) -> u32
     ensures { result ≡ number (check volume.now) }
 {
     types::number(lentilraft::check(volume))
 }
 
 // Opens an allocator's words that stand by themselves, and brings an older form up to date.
-#[unsafe(no_mangle)]
-pub extern "C" fn lentilraft_open_allocator(words: &mut [u8]) -> u32
+pub fn lentilraft_open_allocator(words: &mut [u8]) -> u32
     ensures { Gives (opened words.old) result words.new }
 {
     types::number(allocator::open(words))
 }
 
 // Sets the chunk size; another one only if no pointer was ever given out.
-#[unsafe(no_mangle)]
-pub extern "C" fn lentilraft_set_chunk_size(volume: &mut [u8], span: u64) -> u32
+pub fn lentilraft_set_chunk_size(volume: &mut [u8], span: u64) -> u32
     ensures { Gives (set_chunk_size span volume.old) result volume.new }
 {
     types::number(lentilraft::set_chunk_size(volume, span))
 }
 
 // Reads a file's bytes from an offset on. The count goes through a lent place: 0 for a refusal.
-#[unsafe(no_mangle)]
-pub extern "C" fn lentilraft_read(
+pub fn lentilraft_read(
     volume: &[u8],
     node: u64,
     offset: u64,
@@ -75,8 +72,7 @@ pub extern "C" fn lentilraft_read(
 }
 
 // Puts the report's text at the front of the output. The count goes through a lent place: 0 for a refusal.
-#[unsafe(no_mangle)]
-pub extern "C" fn lentilraft_report(volume: &[u8], out: &mut [u8], count: &mut u64) -> u32
+pub fn lentilraft_report(volume: &[u8], out: &mut [u8], count: &mut u64) -> u32
     ensures { GivesCount (report volume.now out.old) result out.new count.new }
 {
     let answer = lentilraft::report(volume, out);
@@ -85,32 +81,28 @@ pub extern "C" fn lentilraft_report(volume: &[u8], out: &mut [u8], count: &mut u
 }
 
 // Sets a file's limit.
-#[unsafe(no_mangle)]
-pub extern "C" fn lentilraft_set_limit(volume: &mut [u8], node: u64, limit: u64) -> u32
+pub fn lentilraft_set_limit(volume: &mut [u8], node: u64, limit: u64) -> u32
     ensures { Gives (set_limit node (AtMost limit) volume.old) result volume.new }
 {
     types::number(lentilraft::set_limit(volume, node, Limit::AtMost(limit)))
 }
 
 // Takes a file's limit away.
-#[unsafe(no_mangle)]
-pub extern "C" fn lentilraft_clear_limit(volume: &mut [u8], node: u64) -> u32
+pub fn lentilraft_clear_limit(volume: &mut [u8], node: u64) -> u32
     ensures { Gives (set_limit node Unlimited volume.old) result volume.new }
 {
     types::number(lentilraft::set_limit(volume, node, Limit::Unlimited))
 }
 
 // Gives a file another size. What it gains reads zero.
-#[unsafe(no_mangle)]
-pub extern "C" fn lentilraft_resize_file(volume: &mut [u8], node: u64, size: u64) -> u32
+pub fn lentilraft_resize_file(volume: &mut [u8], node: u64, size: u64) -> u32
     ensures { Gives (resize node size volume.old) result volume.new }
 {
     types::number(lentilraft::resize_file(volume, node, size))
 }
 
 // Writes bytes into a file from an offset on. The count goes through a lent place: 0 for a refusal.
-#[unsafe(no_mangle)]
-pub extern "C" fn lentilraft_write(
+pub fn lentilraft_write(
     volume: &mut [u8],
     node: u64,
     offset: u64,
@@ -125,8 +117,7 @@ pub extern "C" fn lentilraft_write(
 }
 
 // Finds the node that a path leads to from a start. The node goes through a lent place: 0 for a refusal.
-#[unsafe(no_mangle)]
-pub extern "C" fn lentilraft_find_node(
+pub fn lentilraft_find_node(
     volume: &[u8],
     start: u64,
     path: &[u8],
@@ -141,8 +132,7 @@ pub extern "C" fn lentilraft_find_node(
 
 // Finds the entry of a directory with the least index at or above one: where its name stands in the volume, how long it is, its index and
 // its node go through lent places, each 0 for a refusal.
-#[unsafe(no_mangle)]
-pub extern "C" fn lentilraft_next_entry(
+pub fn lentilraft_next_entry(
     volume: &[u8],
     directory: u64,
     from: u32,
@@ -174,8 +164,7 @@ pub extern "C" fn lentilraft_next_entry(
 // Searches a directory for a name from an index on, looking at no more than so many entries. Through lent places go 1 and the entry's index
 // and node where it was found, 0 where no entry has the name, 2 and the index of the first entry that was not looked at; and how many were
 // looked at. Each is 0 for a refusal.
-#[unsafe(no_mangle)]
-pub extern "C" fn lentilraft_search(
+pub fn lentilraft_search(
     volume: &[u8],
     directory: u64,
     name: &[u8],
@@ -216,8 +205,7 @@ pub extern "C" fn lentilraft_search(
 
 // Makes a node of a type (0 a directory, 1 a regular file, 2 a symbolic link) and names it in a directory. The node goes through a lent
 // place: 0 for a refusal.
-#[unsafe(no_mangle)]
-pub extern "C" fn lentilraft_create(
+pub fn lentilraft_create(
     volume: &mut [u8],
     parent: u64,
     name: &[u8],
@@ -232,8 +220,7 @@ pub extern "C" fn lentilraft_create(
 }
 
 // Names a file in a directory once more.
-#[unsafe(no_mangle)]
-pub extern "C" fn lentilraft_link(volume: &mut [u8], parent: u64, name: &[u8], target: u64) -> u32
+pub fn lentilraft_link(volume: &mut [u8], parent: u64, name: &[u8], target: u64) -> u32
     ensures { Gives (link parent name.now target volume.old) result volume.new }
 {
     types::number(lentilraft::link(volume, parent, name, target))
@@ -241,8 +228,7 @@ pub extern "C" fn lentilraft_link(volume: &mut [u8], parent: u64, name: &[u8], t
 
 // Takes the name that a path leads to out of its directory. Expected: 0 any kind, 1 a directory, 2 a file. The node goes through a lent place:
 // 0 for a refusal.
-#[unsafe(no_mangle)]
-pub extern "C" fn lentilraft_unlink(
+pub fn lentilraft_unlink(
     volume: &mut [u8],
     start: u64,
     path: &[u8],
@@ -258,8 +244,7 @@ pub extern "C" fn lentilraft_unlink(
 }
 
 // Frees the chunks of a node that has no name left, and takes it away.
-#[unsafe(no_mangle)]
-pub extern "C" fn lentilraft_remove(volume: &mut [u8], node: u64) -> u32
+pub fn lentilraft_remove(volume: &mut [u8], node: u64) -> u32
     ensures { Gives (remove node volume.old) result volume.new }
 {
     types::number(lentilraft::remove(volume, node))
