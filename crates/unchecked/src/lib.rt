@@ -1,5 +1,7 @@
 // Read and write without the check, for bench/ alone: they tell a call's own work from the check's. They ask of their caller that the volume
 // is sound, and nothing sees to it at a caller that is not proved. So they are no part of the interface (rim).
+#![tactic(auto)]
+
 ghost use Rattle.rim.specs.Given.{GivesCount};
 ghost use Rattle.volume.specs.Sound.{Sound};
 ghost use Rattle.lentilraft.specs.Door.{read, write};
