@@ -1,6 +1,6 @@
 -- Believed: allocator open, on its words only, in the scope's order.
 -- Assumes nothing.
-use Rattle.std.specs.Prelude.{ℕ, ◌+◌, ◌-◌, ◌*◌, ◌/◌, ◌%◌, Bool, not, List, length, eqb, leb, ltb}
+use Rattle.std.specs.Prelude.{ℕ, ◌+◌, ◌*◌, ◌%◌, Bool, List, length, eqb, leb, ltb}
 use Rattle.words.specs.Bytes.{word, num, over, spell}
 use Rattle.words.specs.Rules.{pick, both, either, upto, apart}
 use Rattle.types.specs.Outcomes.{Outcome, refused, done}

@@ -1,6 +1,6 @@
 -- Inner: what the allocator's functions ask of its words, and what they read and write there.
 -- Assumes nothing.
-use Rattle.std.specs.Prelude.{◌≡◌, ℕ, ◌+◌, ◌-◌, ◌*◌, ◌/◌, ◌%◌, ◌^◌, ◌≤◌, ◌<◌, Bool, List, length, eqb, leb}
+use Rattle.std.specs.Prelude.{◌≡◌, ℕ, ◌+◌, ◌-◌, ◌*◌, ◌%◌, ◌≤◌, ◌<◌, Bool, List, length, eqb, leb}
 use Rattle.words.specs.Bytes.{word, over, spell}
 use Rattle.words.specs.Rules.{pick, both}
 use Rattle.allocator.specs.Sizes.{accepted_size}

@@ -1,9 +1,11 @@
 // Replays runs of the allocator from the standard input, and compares each answer and all words after it with those stored there.
 // A step whose words its contract forbids counts as a difference. oracle/README.md tells what each line means.
+#![tactic(auto)]
+
 ghost use Rattle.std.specs.Prelude.{◌≡◌, true, ◌+◌, ◌*◌, ◌≤◌, ◌<◌, length};
 ghost use Rattle.allocator.specs.Words.{WordsFormed, Takable};
 
-use libc::{STDIN_FILENO, STDOUT_FILENO};
+use vectors::{STDIN_FILENO, STDOUT_FILENO};
 
 // What a line starts with.
 const BEGIN: u64 = 1;

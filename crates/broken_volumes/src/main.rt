@@ -1,8 +1,10 @@
 // Asks of each memory that the standard input describes whether it is a sound volume, and prints a line that tells the answer.
 // The text lays out volumes, and breaks a copy of the last one anew in each case. oracle/README.md tells what each line means.
+#![tactic(auto)]
+
 ghost use Rattle.std.specs.Prelude.{◌≡◌, ◌+◌, ◌≤◌, min, length};
 
-use libc::{STDIN_FILENO, STDOUT_FILENO};
+use vectors::{STDIN_FILENO, STDOUT_FILENO};
 use volume::Place;
 
 // What a line starts with. Any other number ends the text.

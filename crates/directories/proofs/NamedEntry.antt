@@ -12,7 +12,7 @@ use lib.Dec.{eqb, ltb}
 use lib.ListN.{length, take, drop, get_or, length-drop}
 use lib.Seq.{length-take-le, get_or-drop, get_or-take}
 use borrow.Author.Tests.{lt-ltb, le-ltb}
-use Rattle.words.specs.Rules.{pick, both, same}
+use Rattle.words.specs.Rules.{pick, both}
 use Rattle.words.specs.Tables.{lead, lead_of, Asc}
 use Rattle.words.proofs.Rules.{pick_true, pick-false, stop, go_on}
 use Rattle.words.proofs.Search.{lead-le, lead-ends}

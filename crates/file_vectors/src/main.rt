@@ -1,11 +1,12 @@
 // Replays runs of file calls from the standard input, each on a volume that the text lays out, and prints what each call answers.
 // oracle/README.md tells what each line means. Of a call's numbers, place is an offset, a size or a limit; length the bytes to read or write, or 1
 // where there is to be a limit.
+#![tactic(auto)]
+
 ghost use Rattle.std.specs.Prelude.{◌≡◌, true, ◌+◌, ◌≤◌, min, length};
 
-use libc::{STDIN_FILENO, STDOUT_FILENO};
 use types::{Answer, Limit};
-use vectors::Call;
+use vectors::{Call, STDIN_FILENO, STDOUT_FILENO};
 
 // What a line starts with. Any other number ends the text.
 const VOLUME: u64 = 1;

@@ -16,7 +16,6 @@ use Rattle.volume.specs.Sound.{Named}
 use Rattle.volume.specs.declared.Layout.{Layout}
 use Rattle.tables.specs.Tables.{Ready, entry_at}
 use Rattle.tables.proofs.ReadyVolume.{rooms, count_entries, name-there}
-use Rattle.names.specs.Listing as Listing
 use Rattle.names.specs.Listing.{Listed, listed, unlisted}
 use Rattle.directories.specs.declared.listing.NextPlace.{NextPlace}
 use Rattle.directories.specs.declared.listing.NextPlace.TheVariants as next

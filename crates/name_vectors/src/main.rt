@@ -2,11 +2,12 @@
 // oracle/README.md tells what each line means. Of a call's numbers, node is also a parent, a directory or a start; place an offset, a size, a limit,
 // a type, a target, an open count, an index, a chunk size, or where a poke goes; length that of the buffer, or of the name, path or poke behind
 // the numbers, and 1 where there is to be a limit; seed also what unlink expects, and how many entries a search may look at.
+#![tactic(auto)]
+
 ghost use Rattle.std.specs.Prelude.{◌≡◌, true, ◌+◌, ◌≤◌, min, length};
 
-use libc::{STDIN_FILENO, STDOUT_FILENO};
 use types::{Answer, Expected, Limit};
-use vectors::Call;
+use vectors::{Call, STDIN_FILENO, STDOUT_FILENO};
 
 // What a line starts with. Any other number ends the text.
 const VOLUME: u64 = 1;

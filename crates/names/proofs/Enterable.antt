@@ -4,10 +4,9 @@ use mathlib.Core.Path.{◌≡◌, refl}
 use mathlib.Core.Bool.{Bool, true, false}
 use mathlib.Core.List.{List}
 use mathlib.Core.Option.{Option, none, some}
-use Prim.Native.Nat.{ℕ, ◌≤◌, ◌<◌}
+use Prim.Native.Nat.{ℕ}
 use native.Mathlib.Omega.{arith}
 use lib.Dec.{eqb}
-use lib.ListN.{length}
 use Rattle.words.specs.Rules.{pick, Says, holds, fails}
 use Rattle.words.proofs.Rules.{says-eqb}
 use Rattle.types.specs.Nodes.{is_directory}
@@ -21,7 +20,7 @@ use Rattle.volume.specs.Rows.{Entry}
 use Rattle.volume.specs.Volume.{Names}
 use Rattle.volume.specs.Sound.{node}
 use Rattle.volume.specs.Steps.{NamesStep, remain}
-use Rattle.names.specs.Enterable.{LinkedParent, Enterable}
+use Rattle.names.specs.Enterable.{LinkedParent}
 use Rattle.names.specs.Entries.{entry_named, greatest, on_entry}
 use Rattle.names.specs.Entering.{most_index, on_parent_row, on_parent, where_new}
 

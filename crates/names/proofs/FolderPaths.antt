@@ -14,7 +14,6 @@ use Rattle.words.specs.Rules.{pick, both, either, same}
 use Rattle.words.proofs.Joined.{both_true}
 use Rattle.types.specs.Sizes.{most_name, most_path}
 use Rattle.types.specs.declared.Answer.TheVariants.{Done, Refused}
-use Rattle.types.specs.declared.Error.{Error}
 use Rattle.types.specs.declared.Error.TheVariants.{NoSuchEntry, NotDirectory, BadName}
 use Rattle.types.specs.declared.Expected.{Expected}
 use Rattle.types.specs.declared.FileType.{FileType}

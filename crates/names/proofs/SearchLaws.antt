@@ -10,7 +10,7 @@ use native.Mathlib.Omega.{arith}
 use lib.Dec.{eqb}
 use lib.ListN.{length, drop, get_or}
 use borrow.Author.Tests.{eqb-true}
-use Rattle.words.specs.Rules.{pick, both, same}
+use Rattle.words.specs.Rules.{pick, same}
 use Rattle.words.specs.Tables.{lead, find, only}
 use Rattle.words.proofs.Joined.{both_true}
 use Rattle.words.proofs.Only.{find-only}

@@ -1,3 +1,2 @@
 // Nodes and entries by name: definitions and laws of what directories do, Names to Names. No code.
 #![tactic(auto)]
-

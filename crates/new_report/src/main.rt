@@ -1,5 +1,7 @@
 // Makes a new volume with chunks of 16,384 bytes, and prints its report.
-use libc::STDOUT_FILENO;
+#![tactic(auto)]
+
+use vectors::STDOUT_FILENO;
 
 // Room for a report.
 const OUTPUT: usize = 512;

@@ -1,10 +1,12 @@
 // Cuts each path from the standard input, and compares the parts with those stored there.
 // oracle/README.md tells what each line means.
+#![tactic(auto)]
+
 ghost use Rattle.std.specs.Prelude.{◌≡◌, ◌+◌, ◌≤◌, ◌<◌, length};
 ghost use Rattle.paths.specs.Shown.{BoundsFit};
 
-use libc::{STDIN_FILENO, STDOUT_FILENO};
 use paths::Cut;
+use vectors::{STDIN_FILENO, STDOUT_FILENO};
 
 // What the line of a path starts with.
 const PATH: u64 = 1;

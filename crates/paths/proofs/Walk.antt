@@ -9,7 +9,7 @@ use lib.Dec.{eqb, ltb}
 use borrow.Author.Tests.{eq-eqb, ne_eqb, lt-ltb, le-ltb}
 use lib.ListN.{length, set, get_or}
 use Rattle.words.specs.Bytes.{part}
-use Rattle.words.specs.Rules.{pick, both, count}
+use Rattle.words.specs.Rules.{pick, both}
 use Rattle.words.proofs.Rules.{pick_true, pick-false}
 use Rattle.words.proofs.Parts.{length_part}
 use Rattle.types.specs.Sizes.{most_path}

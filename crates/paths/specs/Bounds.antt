@@ -3,11 +3,6 @@
 use Rattle.std.specs.Prelude.{ℕ, ◌+◌, ◌-◌, Bool, true, false, List, [], ◌∷◌, length, get_or, set, eqb, ltb}
 use Rattle.words.specs.Rules.{pick, both}
 use Rattle.types.specs.Sizes.{most_path}
-use Rattle.types.specs.declared.Error.TheVariants.{PathNotPermitted, InvalidArgument}
-use Rattle.types.specs.declared.Answer.{Answer}
-use Rattle.types.specs.declared.Answer.TheVariants.{Done, Refused}
-use Rattle.types.specs.Answers.{number}
-use Rattle.paths.specs.declared.Cut.{Cut}
 use Rattle.paths.specs.declared.Cut.TheVariants.{Parts, NotPermitted, TooLong}
 use Rattle.paths.specs.Path.{slash, split, dropped, upward}
 use Rattle.paths.specs.Shown.{Cutout, cutout}

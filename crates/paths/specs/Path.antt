@@ -1,6 +1,6 @@
 -- Believed: the scope's "Paths", over lists: a path is split at its slashes, and its pieces are folded into parts. Names that are allowed.
 -- Assumes nothing.
-use Rattle.std.specs.Prelude.{◌≡◌, ℕ, ◌-◌, ◌<◌, Bool, true, false, not, List, [], ◌∷◌, ◌++◌, length, take, get_or, eqb, leb, ltb}
+use Rattle.std.specs.Prelude.{◌≡◌, ℕ, ◌-◌, ◌<◌, Bool, true, not, List, [], ◌∷◌, ◌++◌, length, take, get_or, eqb, leb, ltb}
 use Rattle.words.specs.Rules.{pick, both, either, same}
 use Rattle.types.specs.Sizes.{most_path, most_name}
 

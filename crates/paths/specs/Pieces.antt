@@ -1,6 +1,6 @@
 -- Inner: one turn of the walk, as the code takes it: a piece by its length and its dots, of what sort it is, and what it makes of the bounds.
 -- Assumes nothing.
-use Rattle.std.specs.Prelude.{◌≡◌, ℕ, ◌+◌, ◌-◌, ◌<◌, ◌≤◌, Bool, true, false, List, length, get_or, set, eqb, leb}
+use Rattle.std.specs.Prelude.{◌≡◌, ℕ, ◌+◌, ◌-◌, ◌<◌, ◌≤◌, true, false, List, length, get_or, set, eqb, leb}
 use Rattle.words.specs.Bytes.{part}
 use Rattle.words.specs.Rules.{pick, count}
 use Rattle.paths.specs.declared.Sort.{Sort}

@@ -117,12 +117,7 @@ pub fn lentilraft_write(
 }
 
 // Finds the node that a path leads to from a start. The node goes through a lent place: 0 for a refusal.
-pub fn lentilraft_find_node(
-    volume: &[u8],
-    start: u64,
-    path: &[u8],
-    node: &mut u64,
-) -> u32
+pub fn lentilraft_find_node(volume: &[u8], start: u64, path: &[u8], node: &mut u64) -> u32
     ensures { GivesValue (find_node start path.now volume.now) result node.new }
 {
     let answer = lentilraft::find_node(volume, start, path);

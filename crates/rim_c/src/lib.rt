@@ -156,7 +156,9 @@ pub extern "C" fn lentilraft_search(
 ) -> u32
     ensures { GivesSearch (search directory name.now from most volume.now) result found.new index.new node.new looked.new }
 {
-    rim::lentilraft_search(volume, directory, name, from, most, found, index, node, looked)
+    rim::lentilraft_search(
+        volume, directory, name, from, most, found, index, node, looked,
+    )
 }
 
 // Makes a node of a type (0 a directory, 1 a regular file, 2 a symbolic link) and names it in a directory. The node goes through a lent

@@ -1,12 +1,14 @@
 // Replays sequences of calls that seeds draw, each on a new volume, and prints after each call what it answers and what then stands in every
 // node. oracle/README.md tells what each line means; oracle/sequences.py draws the same calls.
+#![tactic(auto)]
+
 mod asking;
 mod draws;
 mod showing;
 
 ghost use Rattle.std.specs.Prelude.{◌+◌, ◌≤◌, min, length};
 
-use libc::{STDIN_FILENO, STDOUT_FILENO};
+use vectors::{STDIN_FILENO, STDOUT_FILENO};
 
 // What a line starts with. Any other number ends the text.
 const SEQUENCE: u64 = 1;

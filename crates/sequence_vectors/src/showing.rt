@@ -2,8 +2,8 @@
 ghost use Rattle.tables.specs.Tables.{Ready};
 
 use crate::draws::joined;
-use libc::STDOUT_FILENO;
 use types::{Answer, FileType, Limit, NodeRecord, Search};
+use vectors::STDOUT_FILENO;
 use volume::{Layout, Place};
 
 // An entry that was asked for: the number of the answer, a number that tells index, node and name, and the least index behind it.

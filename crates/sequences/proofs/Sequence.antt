@@ -11,8 +11,6 @@ use Rattle.words.specs.Bytes.{Bytes}
 use Rattle.words.specs.Rules.{pick}
 use Rattle.words.specs.Tables.{Each}
 use Rattle.types.specs.Outcomes.{done}
-use Rattle.allocator.specs.Allocator.{free}
-use Rattle.allocator.specs.Pointers.{due}
 use Rattle.allocator.proofs.Accounts.{due-facts, due-one}
 use Rattle.volume.specs.Volume.{Store, shown}
 use Rattle.volume.specs.Sound.{Stored, Sound}
@@ -26,7 +24,7 @@ use Rattle.sequences.specs.Act.{empty_fs, replay}
 use Rattle.sequences.specs.Run.{Ran, run, accepted, run_all, accepted_of}
 use Rattle.sequences.specs.Changing.{MayChange}
 use Rattle.sequences.specs.Saying.{says, said_or, later, last_said, byte_said, byte_of, byte_seen}
-use Rattle.sequences.specs.GivenOut.{live, GivenOut, StillOnce, GoesOn}
+use Rattle.sequences.specs.GivenOut.{GivenOut, StillOnce, GoesOn}
 use Rattle.sequences.specs.Demand.{WorkedOut, ReadsSaid, Permitted}
 use Rattle.sequences.proofs.Shown.{show-there}
 use Rattle.sequences.proofs.Changing.{act-leaves}

@@ -15,7 +15,7 @@ use Rattle.words.specs.Bytes.{word}
 use Rattle.words.proofs.Counting.{tally-some, count_map, tally-none}
 use Rattle.words.proofs.Rules.{says_map, says-true, says_both, says-eqb, says-ltb, says-leb, tally-times}
 use Rattle.words.proofs.Multiples.{whole}
-use Rattle.allocator.specs.Opening.{lined, free_word}
+use Rattle.allocator.specs.Opening.{free_word}
 use Rattle.allocator.specs.Pointers.{due}
 use Rattle.allocator.specs.Allocator.{Allocator, free, read_allocator}
 use Rattle.allocator.proofs.Accounts.{due-facts, due-one, due-none, due-most}

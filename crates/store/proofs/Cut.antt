@@ -10,7 +10,7 @@ use native.Mathlib.Omega.{arith}
 use lib.ListN.{length, length-map}
 use lib.Seq.{length-take-le}
 use Rattle.words.specs.Tables.{Each, only}
-use Rattle.words.specs.Rules.{count, Says}
+use Rattle.words.specs.Rules.{Says}
 use Rattle.words.proofs.Rules.{says_both, says-eqb, says-leb, says-true, true-says, false-says}
 use Rattle.allocator.specs.Allocator.{free, released}
 use Rattle.allocator.specs.Pointers.{Accounted}

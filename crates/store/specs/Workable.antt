@@ -1,6 +1,6 @@
 -- Inner: what the steps of a write or a cut ask of a store, and keep: the rules of a good store, and of what fits into bytes the part they lean on.
 -- Assumes nothing.
-use Rattle.std.specs.Prelude.{◌≡◌, ℕ, ◌≤◌, ◌<◌, length}
+use Rattle.std.specs.Prelude.{◌≡◌, ◌≤◌, ◌<◌, length}
 use Rattle.volume.specs.Volume.{Store}
 use Rattle.volume.specs.Sound.{Stored}
 

@@ -9,7 +9,7 @@ use native.Mathlib.Nat.{not-suc-le-zero, le_of_suc-le-suc}
 use native.Mathlib.Omega.{arith}
 use lib.Dec.{eqb}
 use lib.ListN.{length, length-map, set}
-use borrow.Author.Tests.{eq-eqb, ne_eqb, eqb-true}
+use borrow.Author.Tests.{eq-eqb, ne_eqb}
 use Rattle.words.specs.Rules.{pick, Says, holds, fails}
 use Rattle.words.specs.Tables.{Each, Asc, find}
 use Rattle.words.proofs.Rules.{says-eqb}

@@ -1,6 +1,6 @@
 -- The numbers of a call's line, read one behind another.
 -- Assumes nothing.
-use mathlib.Core.Path.{◌≡◌, refl}
+use mathlib.Core.Path.{◌≡◌}
 use mathlib.Core.List.{List, [], ◌∷◌}
 use Prim.Native.Nat.{ℕ}
 use Rattle.vectors.specs.Scan.{number_at, next_at, numbers_at, after_at}

@@ -37,8 +37,8 @@ pub fn blank_buffer() -> [u8; BUFFER]
 // The call at index at.
 pub fn read_call(text: &[u8], at: usize) -> Call
     requires { at + 1 ≤ length text.now }
-    ensures seed_value { (result.name ∷ result.node ∷ result.place ∷ result.length ∷ result.seed ∷ []) ≡ numbers_at text.now at 5 }
-    ensures next_value { (result.next ≡ after_at text.now at 5) × (at + 1 ≤ result.next) × (result.next ≤ length text.now) }
+    ensures values { (result.name ∷ result.node ∷ result.place ∷ result.length ∷ result.seed ∷ []) ≡ numbers_at text.now at 5 }
+    ensures behind { (result.next ≡ after_at text.now at 5) × (at + 1 ≤ result.next) × (result.next ≤ length text.now) }
 {
     let name = number(text, at);
     let node = number(text, name.next);

@@ -17,8 +17,8 @@ pub struct Scan {
 
 // The first number at or after index at, modulo 2^64. Every call gets further until the end is reached.
 pub fn number(text: &[u8], at: usize) -> Scan
-    ensures value_value { (result.value ≡ number_at text.now at) × (result.next ≡ next_at text.now at) }
-    ensures next_in_bounds { (result.next ≤ length text.now) × (min (at + 1) (length text.now) ≤ result.next) }
+    ensures found { (result.value ≡ number_at text.now at) × (result.next ≡ next_at text.now at) }
+    ensures behind { (result.next ≤ length text.now) × (min (at + 1) (length text.now) ≤ result.next) }
 {
     let start = skip(text, at);
     run(text, start)
@@ -27,8 +27,8 @@ pub fn number(text: &[u8], at: usize) -> Scan
 // The first numbers at or after index at, as many as out holds. Answers the index behind them.
 pub fn numbers(text: &[u8], at: usize, out: &mut [u64]) -> usize
     requires { at ≤ length text.now }
-    ensures out_after { out.new ≡ numbers_at text.now at (length out.old) }
-    ensures value { (result ≡ after_at text.now at (length out.old)) × (at ≤ result) × (result ≤ length text.now) }
+    ensures written { out.new ≡ numbers_at text.now at (length out.old) }
+    ensures behind { (result ≡ after_at text.now at (length out.old)) × (at ≤ result) × (result ≤ length text.now) }
 {
     let mut next = at;
     let mut i = 0;
@@ -74,8 +74,8 @@ fn skip(text: &[u8], at: usize) -> usize
 // The digits from index at on.
 fn run(text: &[u8], at: usize) -> Scan
     requires { at ≤ length text.now }
-    ensures value_value { result.value ≡ held (spelled 0 (drop at text.now)) }
-    ensures next_in_bounds { (result.next ≤ length text.now) × (drop result.next text.now ≡ past_digits (drop at text.now)) }
+    ensures spells { result.value ≡ held (spelled 0 (drop at text.now)) }
+    ensures behind { (result.next ≤ length text.now) × (drop result.next text.now ≡ past_digits (drop at text.now)) }
 {
     let mut value = 0;
     let mut i = at;

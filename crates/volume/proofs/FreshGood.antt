@@ -17,7 +17,7 @@ use Rattle.allocator.proofs.Sizes.{accepted-bounds}
 use Rattle.allocator.proofs.Accounts.{due-none}
 use Rattle.volume.specs.Volume.{at_bytes}
 use Rattle.volume.specs.Framed.{Placed, Fits}
-use Rattle.volume.specs.Fresh.{fresh_allocator, root, fresh, fresh_laid}
+use Rattle.volume.specs.Fresh.{fresh_allocator, fresh, fresh_laid}
 use Rattle.volume.specs.Sound.{node, naming, entries_of, Good, Sound}
 use Rattle.volume.proofs.Laid.{shown-laid}
 use Rattle.volume.proofs.Framed.{framed-laid}

@@ -1,9 +1,11 @@
 // Makes a new volume for each case of the standard input, and prints a line that tells what came of it.
 // A case is a line of numbers: NEW, the rooms of the node, entry and chunk tables, the chunk size, and the bytes of the memory.
+#![tactic(auto)]
+
 ghost use Rattle.std.specs.Prelude.{◌≡◌, ◌+◌, ◌*◌, ◌≤◌, min, length};
 
-use libc::{STDIN_FILENO, STDOUT_FILENO};
 use types::Answer;
+use vectors::{STDIN_FILENO, STDOUT_FILENO};
 
 // What a case starts with. Any other number ends the text.
 const NEW: u64 = 1;

@@ -1,9 +1,11 @@
 // Replays vectors from the standard input on each public function of `words`.
 // A step is a line of numbers: the function, then its arguments. Each step works on a fresh buffer, and prints a line: the number
 // that the function answers, or the checksum of the buffer that it changed, or `outside` where its contract forbids the call.
+#![tactic(auto)]
+
 ghost use Rattle.std.specs.Prelude.{◌≡◌, ◌+◌, ◌≤◌, ◌<◌, min, length};
 
-use libc::{STDIN_FILENO, STDOUT_FILENO};
+use vectors::{STDIN_FILENO, STDOUT_FILENO};
 
 // Bytes of the buffer.
 const SIZE: usize = 1024;

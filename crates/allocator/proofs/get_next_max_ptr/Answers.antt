@@ -1,5 +1,4 @@
 use mathlib.Core.Path.{ap, ◌∙◌}
-use Prim.Native.Nat.{◌-◌}
 use native.Mathlib.Omega.{arith}
 use Rattle.words.specs.Bytes.{over, spell}
 use Rattle.allocator.proofs.get_next_max_ptr.Goals as goal

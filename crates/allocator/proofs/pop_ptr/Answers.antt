@@ -1,5 +1,4 @@
 use mathlib.Core.Path.{sym, ◌∙◌}
-use Prim.Native.Nat.{◌-◌}
 use Rattle.allocator.proofs.Steps.{none_free, some-free}
 use Rattle.allocator.proofs.pop_ptr.Goals as goal
 

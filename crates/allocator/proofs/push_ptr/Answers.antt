@@ -1,5 +1,4 @@
 use mathlib.Core.Path.{◌∙◌}
-use Prim.Native.Nat.{◌-◌}
 use Rattle.allocator.proofs.push_ptr.Goals as goal
 
 pub returns : goal.returns

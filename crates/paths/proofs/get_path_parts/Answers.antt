@@ -1,7 +1,6 @@
 use borrow.Author.Rules.{rules}
 use native.Mathlib.Omega.{arith}
 use mathlib.Core.Path.{ap}
-use Prim.Native.Nat.{◌-◌}
 use Rattle.paths.specs.Pieces.{parts_after}
 use Rattle.paths.proofs.Walk.{cut-long, cut-led, walk_start, walk_turn, walk-barred, walk-open, walk-shut}
 use Rattle.paths.proofs.get_path_parts.Goals as goal

@@ -1,7 +1,6 @@
 use borrow.Author.Rules.{rules}
 use native.Mathlib.Omega.{arith}
 use mathlib.Core.Path.{◌∙◌, sym}
-use Prim.Native.Nat.{◌-◌}
 use borrow.Author.Tests.{eqb-true}
 use Rattle.paths.proofs.Scan.{scan-start, scan-turn, scan-end}
 use Rattle.paths.proofs.read_piece.Goals as goal

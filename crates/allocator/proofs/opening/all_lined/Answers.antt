@@ -1,9 +1,6 @@
 use borrow.Author.Rules.{rules}
 use mathlib.Core.Path.{ap, ◌∙◌}
-use mathlib.Core.Bool.{true}
-use Prim.Native.Nat.{◌-◌}
 use native.Mathlib.Omega.{arith}
-use Rattle.words.specs.Rules.{upto}
 use Rattle.words.proofs.Rules.{told, upto-start, upto_turn, upto-fail, upto-end}
 use Rattle.allocator.specs.Opening.{lined, free_word}
 use Rattle.allocator.proofs.opening.all_lined.Goals as goal

@@ -1,10 +1,8 @@
 use borrow.Author.Rules.{rules}
 use mathlib.Core.Path.{ap}
-use mathlib.Core.Bool.{true, not}
-use Prim.Native.Nat.{◌-◌}
+use mathlib.Core.Bool.{not}
 use native.Mathlib.Omega.{arith}
 use lib.Dec.{eqb}
-use Rattle.words.specs.Rules.{upto}
 use Rattle.words.proofs.Rules.{upto-start, upto_turn, upto-fail, upto-end, is-yes2, is-no2}
 use Rattle.allocator.specs.Opening.{free_word}
 use Rattle.allocator.proofs.opening.is_first.Goals as goal

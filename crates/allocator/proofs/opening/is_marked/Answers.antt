@@ -1,4 +1,3 @@
-use Prim.Native.Nat.{◌-◌}
 use Rattle.allocator.proofs.Opened.{mark-new, mark-other}
 use Rattle.allocator.proofs.opening.is_marked.Goals as goal
 

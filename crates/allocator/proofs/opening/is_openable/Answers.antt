@@ -1,6 +1,5 @@
 use borrow.Author.Rules.{rules}
 use mathlib.Core.Path.{ap, ◌∙◌}
-use Prim.Native.Nat.{◌-◌}
 use Rattle.words.proofs.Rules.{told, stop, go_on}
 use Rattle.allocator.specs.Opening.{free_words_good, openable}
 use Rattle.allocator.proofs.Opened.{meant-one}

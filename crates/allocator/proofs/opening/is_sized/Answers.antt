@@ -1,4 +1,3 @@
-use Prim.Native.Nat.{◌-◌}
 use Rattle.allocator.proofs.Opened.{sized-none, sized-some}
 use Rattle.allocator.proofs.opening.is_sized.Goals as goal
 

@@ -1,4 +1,3 @@
-use Prim.Native.Nat.{◌-◌}
 use Rattle.words.proofs.Rules.{told}
 use Rattle.allocator.proofs.Opened.{open-short, open-unsound, open_done}
 use Rattle.allocator.proofs.opening.open.Goals as goal

@@ -1,4 +1,3 @@
-use Prim.Native.Nat.{◌-◌}
 use Rattle.allocator.proofs.Opened.{mark-renewed, mark-kept}
 use Rattle.allocator.proofs.opening.renew_mark.Goals as goal
 

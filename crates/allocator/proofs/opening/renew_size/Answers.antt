@@ -1,4 +1,3 @@
-use Prim.Native.Nat.{◌-◌}
 use Rattle.allocator.proofs.Opened.{size-renewed, size-kept}
 use Rattle.allocator.proofs.opening.renew_size.Goals as goal
 

@@ -1,4 +1,3 @@
-use Prim.Native.Nat.{◌-◌}
 use Rattle.allocator.proofs.Opened.{size-default, size-stored}
 use Rattle.allocator.proofs.opening.size_meant.Goals as goal
 

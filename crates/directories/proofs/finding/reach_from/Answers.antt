@@ -1,9 +1,7 @@
 use borrow.Author.Rules.{rules}
 use mathlib.Core.Path.{sym, ◌∙◌, ap}
-use Prim.Native.Nat.{◌-◌}
 use native.Mathlib.Omega.{arith}
 use Rattle.volume.specs.Volume.{shown}
-use Rattle.directories.specs.declared.finding.Reached.TheVariants.{At}
 use Rattle.directories.specs.Reaches.{reach}
 use Rattle.directories.proofs.Reaching.{start-missing, reach-start, reach-turn, reach-stop, reach-end}
 use Rattle.paths.specs.Shown.{shown_parts}

@@ -1,6 +1,5 @@
 use borrow.Author.Rules.{rules}
 use mathlib.Core.Path.{refl}
-use Prim.Native.Nat.{◌-◌}
 use Rattle.files.proofs.FreeSteps.{none-freed, next_row, freed-turn, all-freed}
 use Rattle.files.proofs.cutting.free_rows.Goals as goal
 

@@ -1,5 +1,4 @@
 use borrow.Author.Rules.{rules}
-use Prim.Native.Nat.{◌-◌}
 use native.Mathlib.Omega.{arith}
 use Rattle.volume.specs.Volume.{shown}
 use Rattle.store.proofs.CutRows.{of_node}

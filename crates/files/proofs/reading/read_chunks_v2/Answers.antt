@@ -1,5 +1,4 @@
 use native.Mathlib.Omega.{arith}
-use Prim.Native.Nat.{◌-◌}
 use Rattle.volume.specs.Volume.{shown}
 use Rattle.files.proofs.ReadPieces.{read-start, piece-asked, piece-some, read-turn, read-end}
 use Rattle.files.proofs.reading.read_chunks_v2.Goals as goal

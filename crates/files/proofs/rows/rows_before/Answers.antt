@@ -1,7 +1,6 @@
 use Rattle.volume.specs.Search.{chunk_under}
 use borrow.Author.Rules.{rules}
 use mathlib.Core.Path.{sym, ◌∙◌}
-use Prim.Native.Nat.{◌-◌}
 use native.Mathlib.Omega.{arith}
 use Rattle.volume.specs.Volume.{shown}
 use Rattle.words.proofs.Search.{walk_start, walk_turn, walk-stop, walk_end}

@@ -1,9 +1,7 @@
 use borrow.Author.Rules.{rules}
 use mathlib.Core.Path.{refl}
-use Prim.Native.Nat.{◌-◌}
 use Rattle.tables.proofs.ReadyVolume.{rooms, count-chunks}
 use native.Mathlib.Omega.{arith}
-use Rattle.files.specs.Gap.{closed}
 use Rattle.files.proofs.WriteLoop.{gap-asked, opened-closed, write-start, chunk-asked, chunk-touched, write-turn, write-end}
 use Rattle.files.proofs.writing.write_chunks_v2.Goals as goal
 

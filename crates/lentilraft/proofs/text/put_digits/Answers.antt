@@ -2,9 +2,8 @@ use mathlib.Core.Path.{refl, sym, ◌∙◌}
 use Prim.Native.Nat.{◌-◌}
 use native.Mathlib.Omega.{arith}
 use borrow.Author.Rules.{rules}
-use lib.ListN.{length, length-set}
+use lib.ListN.{length-set}
 use Rattle.lentilraft.proofs.Lines.{digit-turn, digits-put}
-use Rattle.lentilraft.specs.Report.{digits}
 use Rattle.lentilraft.proofs.text.put_digits.Goals as goal
 
 pub loop-i-init : goal.loop-i-init

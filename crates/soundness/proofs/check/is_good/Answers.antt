@@ -21,8 +21,7 @@ returns-then-not-is_stored c =
     go_on _ _ (told c.is_named.ensures c.if-not-is_named.false) (stop _ _ (told c.is_stored.ensures c.if-not-is_stored.true))
 
 pub is_owned-requires : goal.is_owned-requires
-is_owned-requires c =
-    (
+is_owned-requires c = (
   c.requires,
   says-true (says-named (shown c.args.volume.now).names) (told c.is_named.ensures c.if-not-is_named.false),
   says-true (says-stored (shown c.args.volume.now).store (omega (arith, c.chunk_size-span.ensures)) (room-there c.args.volume.now (framed c.args.volume.now c.args.layout c.requires))) (told c.is_stored.ensures c.if-not-is_stored.false),

@@ -1,11 +1,9 @@
 use borrow.Author.Rules.{rules}
 use native.Mathlib.Omega.{arith}
-use Rattle.words.specs.Rules.{upto}
 use Rattle.words.proofs.Rules.{told, upto-start, upto_turn, upto-fail, upto-end}
 use Rattle.volume.specs.Rows.{entry_row}
 use Rattle.volume.specs.RowTests.{entry_formed}
-use mathlib.Core.Bool.{true}
-use Prim.Native.Nat.{ℕ, ◌+◌, ◌-◌, ◌*◌}
+use Prim.Native.Nat.{ℕ, ◌+◌, ◌*◌}
 use Rattle.soundness.proofs.frame.entry_rows.Goals as goal
 
 pub loop-i-init : goal.loop-i-init

@@ -1,9 +1,7 @@
 use borrow.Author.Rules.{rules}
-use mathlib.Core.Bool.{true}
-use Prim.Native.Nat.{ℕ, ◌-◌}
+use Prim.Native.Nat.{ℕ}
 use native.Mathlib.Omega.{arith}
 use lib.ListN.{length}
-use Rattle.words.specs.Rules.{upto}
 use Rattle.words.proofs.Rules.{told, upto-start, upto_turn, upto-fail, upto-end}
 use Rattle.volume.specs.Volume.{shown}
 use Rattle.volume.specs.Sound.{naming, entries_of}

@@ -1,8 +1,6 @@
 use borrow.Author.Rules.{rules}
-use Prim.Native.Nat.{◌-◌}
 use native.Mathlib.Omega.{arith}
 use lib.ListN.{length}
-use Rattle.words.specs.Rules.{upto}
 use Rattle.words.proofs.Rules.{upto-start, upto_turn, upto-fail, upto-end}
 use Rattle.volume.specs.Volume.{shown}
 use Rattle.soundness.specs.OwnerRules.{row_owned, chunks_owned}

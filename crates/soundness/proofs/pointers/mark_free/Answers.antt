@@ -1,8 +1,6 @@
 use mathlib.Core.Bool.{not}
 use mathlib.Core.Path.{ap}
 use borrow.Author.Rules.{rules}
-use mathlib.Core.Bool.{true}
-use Prim.Native.Nat.{◌-◌}
 use native.Mathlib.Omega.{arith}
 use Rattle.allocator.specs.Opening.{free_word}
 use Rattle.soundness.proofs.Marks.{pass-start, pass-turn, pass-fail, pass-end}

@@ -1,5 +1,4 @@
 use mathlib.Core.Path.{sym, ◌∙◌}
-use Prim.Native.Nat.{◌-◌}
 use Rattle.volume.specs.Rows.{read_chunk, chunk_row}
 use Rattle.volume.specs.Search.{chunk_under}
 use Rattle.words.proofs.Search.{all-between, upper-half, lower-half, none_between}

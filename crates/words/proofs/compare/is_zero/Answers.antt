@@ -1,7 +1,5 @@
 use borrow.Author.Rules.{rules}
 use mathlib.Core.Path.{refl}
-use mathlib.Core.Bool.{true}
-use Prim.Native.Nat.{◌-◌}
 use Rattle.words.specs.Tests.{all_zero}
 use Rattle.words.proofs.Blocks.{zero_turn, zero-stop}
 use Rattle.words.proofs.compare.is_zero.Goals as goal

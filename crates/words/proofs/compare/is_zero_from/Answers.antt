@@ -1,6 +1,4 @@
 use borrow.Author.Rules.{rules}
-use mathlib.Core.Bool.{true}
-use Prim.Native.Nat.{◌-◌}
 use native.Mathlib.Omega.{arith}
 use Rattle.words.proofs.Blocks.{zero-byte, zero_turn, zero-stop, zero-end}
 use Rattle.words.proofs.compare.is_zero_from.Goals as goal

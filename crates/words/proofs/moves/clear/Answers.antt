@@ -1,9 +1,8 @@
 use mathlib.Core.Path.{◌≡◌, refl, sym}
-use Prim.Native.Nat.{◌-◌}
 use native.Mathlib.Omega.{arith}
 use borrow.Author.Rules.{rules}
-use lib.ListN.{length, length-set}
-use Rattle.words.specs.Bytes.{over, zeros}
+use lib.ListN.{length-set}
+use Rattle.words.specs.Bytes.{zeros}
 use Rattle.words.proofs.Parts.{over-nil}
 use Rattle.words.proofs.WriteLoops.{clear-turn}
 use Rattle.words.proofs.moves.clear.Goals as goal

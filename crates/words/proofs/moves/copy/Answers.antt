@@ -1,8 +1,7 @@
 use mathlib.Core.Path.{refl, sym, ap, ◌∙◌}
-use Prim.Native.Nat.{◌-◌}
 use native.Mathlib.Omega.{arith}
 use borrow.Author.Rules.{rules}
-use lib.ListN.{length, length-set}
+use lib.ListN.{length-set}
 use lib.Seq.{take_all}
 use Rattle.words.specs.Bytes.{over}
 use Rattle.words.proofs.Parts.{over-nil}

@@ -1,5 +1,4 @@
 use native.Mathlib.Omega.{arith}
-use lib.ListN.{drop}
 use Rattle.words.specs.Bytes.{Bytes}
 use Rattle.words.proofs.RankOrder.{by_length, by_bytes, back-same, drop-whole}
 use Rattle.words.proofs.ranks.ranks_below.Goals as goal
