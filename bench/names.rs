@@ -4,7 +4,7 @@
 //! With `--cfg plain` the proved code is compiled as Rust (bench/run-plain), and its calls are measured without their check, too.
 
 #[cfg(plain)]
-extern crate rim as _; // the exported functions
+extern crate rim_c as _; // the exported functions
 
 #[allow(dead_code)] // of what files need
 mod exported;

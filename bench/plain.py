@@ -1,8 +1,8 @@
 #!/usr/bin/env python3
 """bench/plain.py OUT CRATE: writes a crate and those it depends on as Rust into OUT/CRATE/*.rs, and prints them in the order in which they compile.
 
-A .rt file without its contracts is Rust, but for two things. Records are copied, so each type derives Copy. And an index was proved to lie within
-its bounds and is not tested in the library; so it is not tested here."""
+A .rt file without its contracts is Rust, but for one thing: an index was proved to lie within its bounds and is not tested in the library; so it is
+not tested here."""
 import pathlib
 import re
 import sys
@@ -10,12 +10,11 @@ import sys
 TOP = pathlib.Path(__file__).resolve().parent.parent
 
 # What only the check reads, a line each.
-GHOST = re.compile(r"ghost use .*;")
-CLAUSE = re.compile(r"    (requires|ensures) \{ .* ⌝ \}")
-LEFT_OVER = re.compile(r"\b(ghost|requires|ensures)\b|[⌜⌝]")
+GHOST = re.compile(r"ghost use .*;|#!\[tactic\(auto\)\]")
+CLAUSE = re.compile(r"    (requires|ensures)( \w+)? \{ .* \}")
+LEFT_OVER = re.compile(r"\b(ghost|requires|ensures|tactic)\b")
 
 COMMENT = re.compile(r"\s*//")
-TYPE = re.compile(r"(pub )?(struct|enum) ")
 
 # `a[i] =`, `a[i] +=`, `&mut a[i..j]`; and what then is left, `a[i]`.
 INDEX = r"(\w+)\[([^][]+)\]"
@@ -27,7 +26,7 @@ READ = re.compile(INDEX)
 def listed():
     """The crates that each crate depends on, in an order in which they compile."""
     lines = (TOP / "crates.txt").read_text().splitlines()
-    return {name: needed.split() for name, needed in (line.split(":") for line in lines)}
+    return {name.split()[0]: needed.split() for name, needed in (line.split(":") for line in lines)}
 
 
 def untested(line):
@@ -45,8 +44,6 @@ def plain(path):
             continue
         if LEFT_OVER.search(line):
             sys.exit(f"{path}: not understood: {line}")
-        if TYPE.match(line):
-            kept.append("#[derive(Clone, Copy)]")
         kept.append(untested(line))
     return "\n".join(kept) + "\n"
 

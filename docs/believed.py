@@ -15,7 +15,9 @@ import sys
 
 ROOT = pathlib.Path(__file__).resolve().parent.parent
 FIRST = re.compile(r"-- (Believed|Inner): \S")
-USE = re.compile(r"(?m)^use Rattle·(\w+)(?:·(?:specs|proofs))?\.(specs|proofs)\.([\w.-]+?)(?:\.\{([^}]*)\})?(?: as \S+)?$")
+USE = re.compile(r"(?m)^use Rattle\.(\w+)\.(specs|proofs)\.([\w.-]+?)(?:\.\{([^}]*)\})?(?: as \S+)?$")
+# The library of the kit, whose words a reader takes as they are.
+KIT = "std"
 BEGIN, END = "<!-- believed.py -->", "<!-- end -->"
 FIRST_PAGE_END = "\n## Crate by crate"
 
@@ -48,12 +50,14 @@ def read():
             continue
         believed[crate, name] = lines_of(text)
         for other, folder, module, names in USE.findall(text):
+            if other == KIT:
+                continue
             if folder == "proofs":
                 cited = [law.strip() for law in names.split(",")]
                 laws |= {f"`{other}/{module}: {law}`" for law in cited}
                 wrong += [f"{crate}/specs/{name}.antt is believed and uses {law} of {other}/proofs/{module}.antt, which is no law" for law in cited if not is_law(other, module, law)]
             elif module.startswith("declared."):
-                types.add(f"`{other}: {module.removesuffix('.the-variants').split('.')[-1]}`")
+                types.add(f"`{other}: {module.removesuffix('.TheVariants').split('.')[-1]}`")
             elif kinds.get((other, module)) == "Inner":
                 wrong.append(f"{crate}/specs/{name}.antt is believed and uses {other}/specs/{module}.antt")
     return believed, types, laws, wrong

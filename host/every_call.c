@@ -1,6 +1,6 @@
 /* Every call of lentilraft.h, in the order in which a program is likely to need them. From the top of the repository, on x86-64 Linux:
 
-       rt staticlib rim
+       bash host/archive rim
        gcc -I host -o every_call host/every_call.c target/staticlib/librim.a
        ./every_call
 

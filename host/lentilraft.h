@@ -1,4 +1,4 @@
-/* Lentilraft for C, over the static library that `rt staticlib rim` writes (target/staticlib/librim.a).
+/* Lentilraft for C, over the static library that `bash host/archive rim` writes (target/staticlib/librim.a).
 
    Each call gives back a number: 0 if it was carried out, else why it was refused. A call is carried out in full or refused with nothing
    changed; numbers that it tells through pointers are 0 then. A number is given where its reason holds and none does that stands before it

@@ -5,7 +5,7 @@ use std::fs;
 use std::path::{Path, PathBuf};
 use std::process;
 
-/// Where `rt staticlib rim` puts the archive, seen from this crate.
+/// Where `bash host/archive rim` puts the archive, seen from this crate.
 const MADE_HERE: &str = "../../../target/staticlib/librim.a";
 
 fn main() {
@@ -36,7 +36,7 @@ fn archive() -> PathBuf {
     if !path.is_file() {
         give_up(&format!(
             "there is no archive at {}.\n\
-             Make it with `rt staticlib rim`, or say in LENTILRAFT_ARCHIVE where librim.a is.",
+             Make it with `bash host/archive rim`, or say in LENTILRAFT_ARCHIVE where librim.a is.",
             path.display()
         ));
     }

@@ -5,7 +5,7 @@
 //! with an [`Error`] and has changed nothing. The memory may come from anywhere: every call checks
 //! that it is a sound volume first, and any bytes get an answer.
 //!
-//! The calls are written and proved in Rattle, and come as an archive that `rt staticlib rim`
+//! The calls are written and proved in Rattle, and come as an archive that `bash host/archive rim`
 //! makes (docs/PROVED.md says what is proved). This crate links the archive and gives its calls the
 //! form that is usual in Rust. It keeps nothing of its own, so it has nothing to prove but that it
 //! hands on what it is given. Four calls are the exception: [`Volume::node`], [`Volume::written`],
