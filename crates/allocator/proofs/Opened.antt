@@ -1,5 +1,6 @@
 -- What open finds and leaves, from what it read and wrote.
 -- Assumes nothing.
+use Rattle.std.specs.Prelude.{Ok}
 use mathlib.Core.Path.{◌≡◌, refl, sym, ◌∙◌}
 use mathlib.Core.Bool.{Bool, true, false}
 use mathlib.Core.List.{List}
@@ -13,7 +14,6 @@ use Rattle.words.specs.Rules.{pick}
 use Rattle.words.proofs.Rules.{pick_true, pick-false, done, or_else}
 use Rattle.words.proofs.Powers.{power-ones}
 use Rattle.types.specs.Outcomes.{outcome, refused}
-use Rattle.types.specs.declared.Answer.TheVariants.{Done}
 use Rattle.types.specs.declared.Error.TheVariants.{UnsoundMemory, InvalidArgument}
 use Rattle.allocator.specs.Sizes.{accepted_size, default_size}
 use Rattle.allocator.specs.Allocator.{marker}
@@ -66,9 +66,9 @@ module _ (l : List ℕ) where
   size-kept e h = pick-false _ _ _ _ (rw (← e) (ne_eqb _ _ h)) refl
 
   -- a size that is meant has one bit set
-  pub meant-one : {s : ℕ} → s ≡ size_meant l → size_allowed l ≡ true → ones s ≡ 1
+  pub meant_one : {s : ℕ} → s ≡ size_meant l → size_allowed l ≡ true → ones s ≡ 1
   unfolding size_meant size_allowed pick
-  meant-one {s} e h = go (eqb (word l 8) 0) refl
+  meant_one {s} e h = go (eqb (word l 8) 0) refl
     where
       go : (t : Bool) → eqb (word l 8) 0 ≡ t → ones s ≡ 1
       go true z = rw (e ∙ sym (size-default refl (eqb-true _ _ z))) (power-ones 14)
@@ -80,11 +80,10 @@ module _ (l : List ℕ) where
   unfolding opened
   open-short h = pick_true _ _ _ _ (lt-ltb _ _ h) refl
 
-  module _ (h : 128 ≤ length l) where
-    pub open-unsound : openable l ≡ false → refused UnsoundMemory l ≡ opened l
-    unfolding opened
-    open-unsound e = pick-false _ _ _ _ (le-ltb _ _ h) (pick-false _ _ _ _ e refl)
+  pub open-unsound : 128 ≤ length l → openable l ≡ false → refused UnsoundMemory l ≡ opened l
+  unfolding opened
+  open-unsound h e = pick-false _ _ _ _ (le-ltb _ _ h) (pick-false _ _ _ _ e refl)
 
-    pub open_done : {m n : List ℕ} → openable l ≡ true → m ≡ mark_renewed l → n ≡ size_renewed m → outcome (Done 0) n ≡ opened l
-    unfolding opened
-    open_done e p q = pick-false _ _ _ _ (le-ltb _ _ h) (pick_true _ _ _ _ e (rw (q, p)))
+  pub open_done : {m n : List ℕ} → 128 ≤ length l → openable l ≡ true → m ≡ mark_renewed l → n ≡ size_renewed m → outcome (Ok 0) n ≡ opened l
+  unfolding opened
+  open_done h e p q = pick-false _ _ _ _ (le-ltb _ _ h) (pick_true _ _ _ _ e (rw (q, p)))

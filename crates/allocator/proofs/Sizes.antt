@@ -1,40 +1,20 @@
 -- Laws of the accepted sizes, and of setting one.
 -- Assumes nothing.
-use mathlib.Core.Path.{◌≡◌, refl, sym, ap, ◌∙◌}
+use Rattle.std.specs.Prelude.{Ok, Err}
+use mathlib.Core.Path.{◌≡◌, refl, ap, ◌∙◌}
 use mathlib.Core.Bool.{Bool, true, false}
-use Prim.Native.Nat.{ℕ, ◌^◌, ◌≤◌, ◌<◌}
+use Prim.Native.Nat.{ℕ, ◌^◌, ◌≤◌}
 use native.Mathlib.Omega.{arith}
 use lib.Count.{ones, count_trailing_zeros}
 use lib.Dec.{eqb}
 use lib.Pow.{pow_mono}
-use borrow.Author.Tests.{eq-eqb, ne_eqb, le-leb, lt-leb}
 use Rattle.words.specs.Rules.{pick, Says, holds}
-use Rattle.words.proofs.Rules.{stop, go_on, says_map, says_both, says-eqb, says-leb, says-true, true-says}
+use Rattle.words.proofs.Rules.{says_map, says_both, says-eqb, says-leb, says-true, true-says}
 use Rattle.words.proofs.Powers.{one_set, power-ones, power-zeros}
-use Rattle.types.specs.declared.Answer.TheVariants.{Done, Refused}
 use Rattle.types.specs.declared.Error.{Error}
 use Rattle.types.specs.declared.Error.TheVariants.{InvalidArgument}
 use Rattle.allocator.specs.Sizes.{least_shift, most_shift, accepted_size}
 use Rattle.allocator.specs.Allocator.{Allocator, AllocatorStep, with_size, set_chunk_size}
-
--- ---- what the code finds
-
-module _ (s : ℕ) where
-  pub other-bits : (ones s ≡ 1 → ⊥) → false ≡ accepted_size s
-  unfolding accepted_size
-  other-bits h = stop _ _ (ne_eqb _ _ h)
-
-  pub few-zeros : ones s ≡ 1 → count_trailing_zeros 64 s < least_shift → false ≡ accepted_size s
-  unfolding accepted_size
-  few-zeros e h = go_on _ _ (eq-eqb _ _ e) (stop _ _ (lt-leb _ _ h))
-
-  pub many-zeros : ones s ≡ 1 → least_shift ≤ count_trailing_zeros 64 s → most_shift < count_trailing_zeros 64 s → false ≡ accepted_size s
-  unfolding accepted_size
-  many-zeros e l h = go_on _ _ (eq-eqb _ _ e) (go_on _ _ (le-leb _ _ l) (sym (lt-leb _ _ h)))
-
-  pub right-zeros : ones s ≡ 1 → least_shift ≤ count_trailing_zeros 64 s → count_trailing_zeros 64 s ≤ most_shift → true ≡ accepted_size s
-  unfolding accepted_size
-  right-zeros e l h = go_on _ _ (eq-eqb _ _ e) (go_on _ _ (le-leb _ _ l) (sym (le-leb _ _ h)))
 
 -- ---- what is accepted: the powers of two whose exponent is 12 to 16
 
@@ -84,13 +64,13 @@ accepted-bounds s e =
 -- ---- a size set
 
 -- what holds of a refusal, of the size that is set already, and of another accepted one while word 3 is 0, holds of the call
-pub size-cases : (P : AllocatorStep → Type 0) (s : ℕ) (a : Allocator) → ((e : Error) → P (record { answer = Refused e; after = a })) → P (record { answer = Done 0; after = a })
-    → (accepted_size s ≡ true → a.next_ptr ≡ 0 → P (record { answer = Done 0; after = with_size s a })) → P (set_chunk_size s a)
+pub size-cases : (P : AllocatorStep → Type 0) (s : ℕ) (a : Allocator) → ((e : Error) → P (record { answer = Err e; after = a })) → P (record { answer = Ok 0; after = a })
+    → (accepted_size s ≡ true → a.next_ptr ≡ 0 → P (record { answer = Ok 0; after = with_size s a })) → P (set_chunk_size s a)
 unfolding set_chunk_size pick
 size-cases P s a refusal same other = go (accepted_size s) refl (eqb a.chunk_size s) (eqb a.next_ptr 0) (says-eqb a.next_ptr 0)
   where
     go : (b : Bool) → accepted_size s ≡ b → (c d : Bool) → Says (a.next_ptr ≡ 0) d
-        → P (pick b (pick c (record { answer = Done 0; after = a }) (pick d (record { answer = Done 0; after = with_size s a }) (record { answer = Refused InvalidArgument; after = a }))) (record { answer = Refused InvalidArgument; after = a }))
+        → P (pick b (pick c (record { answer = Ok 0; after = a }) (pick d (record { answer = Ok 0; after = with_size s a }) (record { answer = Err InvalidArgument; after = a }))) (record { answer = Err InvalidArgument; after = a }))
     go true e true d z = same
     go true e false true (holds z) = other e z
     go true e false false z = refusal InvalidArgument

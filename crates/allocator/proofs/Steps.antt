@@ -1,5 +1,6 @@
 -- Each call of the allocator, from what it read and wrote to what it makes of the record.
 -- Assumes nothing.
+use Rattle.std.specs.Prelude.{Option, Some, None, Ok, Err}
 use mathlib.Core.Path.{◌≡◌, refl, sym, ap, ◌∙◌}
 use mathlib.Core.Bool.{Bool, true, false}
 use mathlib.Core.List.{List}
@@ -11,11 +12,8 @@ use borrow.Author.Tests.{eq-eqb, ne_eqb, eqb-true, eqb-false}
 use Rattle.words.specs.Bytes.{over, spell, word, Bytes}
 use Rattle.words.proofs.Rules.{pick_true, pick-false}
 use Rattle.words.proofs.Tables.{length-table, table_at}
-use Rattle.types.specs.declared.Answer.{Answer}
-use Rattle.types.specs.declared.Answer.TheVariants.{Done, Refused}
+use Rattle.types.specs.Answers.{Answer}
 use Rattle.types.specs.declared.Error.TheVariants.{InvalidArgument}
-use Rattle.allocator.specs.declared.Popped.{Popped}
-use Rattle.allocator.specs.declared.Popped.TheVariants.{Pointer, Nothing}
 use Rattle.allocator.specs.Sizes.{accepted_size}
 use Rattle.allocator.specs.Allocator.{AllocatorStep, read_allocator, lay_allocator, read_word, with_size, with_words, allocate, release, set_chunk_size}
 use Rattle.allocator.specs.Words.{WordsFormed, last_free, without_last}
@@ -24,17 +22,17 @@ use Rattle.allocator.proofs.Laid.{first_word, laid-again, read_fits, put-size, p
 
 -- ---- the last free pointer
 
-pub none_free : (l : List ℕ) → word l 16 ≡ 0 → (Nothing ≡ last_free l) × (l ≡ without_last l)
+pub none_free : (l : List ℕ) → word l 16 ≡ 0 → (None ≡ last_free l) × (l ≡ without_last l)
 unfolding last_free without_last
 none_free l e = (pick_true _ _ _ _ (eq-eqb _ _ e) refl, pick_true _ _ _ _ (eq-eqb _ _ e) refl)
 
-pub some-free : (l : List ℕ) {n p : ℕ} {m : List ℕ} → n ≡ word l 16 → (n ≡ 0 → ⊥) → p ≡ word l (128 + 8 * (n - 1)) → m ≡ over l 16 (spell 8 (n - 1)) → (Pointer p ≡ last_free l) × (m ≡ without_last l)
+pub some-free : (l : List ℕ) {n p : ℕ} {m : List ℕ} → n ≡ word l 16 → (n ≡ 0 → ⊥) → p ≡ word l (128 + 8 * (n - 1)) → m ≡ over l 16 (spell 8 (n - 1)) → (Some p ≡ last_free l) × (m ≡ without_last l)
 unfolding last_free without_last
 some-free l e h p q =
     let z : eqb (word l 16) 0 ≡ false = ne_eqb _ _ (λ k. h (e ∙ k)) in
     (pick-false _ _ _ _ z (rw (p, e)), pick-false _ _ _ _ z (rw (q, e)))
 
-pub no_last : (l : List ℕ) → Nothing ≡ last_free l → word l 16 ≡ 0
+pub no_last : (l : List ℕ) → None ≡ last_free l → word l 16 ≡ 0
 no_last l h = go (eqb (word l 16) 0) refl
   where
     go : (t : Bool) → eqb (word l 16) 0 ≡ t → word l 16 ≡ 0
@@ -67,7 +65,7 @@ module _ (l : List ℕ) (b : Bytes l) (f : WordsFormed l) where
         s ∙ ap (λ (z : List ℕ). over z 24 (spell 8 (word z 24 + word z 8))) k ∙ over-l 24 _ ∙ put_next (read_allocator l) (read_fits l b f).twelve _ ∙ ap (λ t. lay_allocator t.after) (sym a),
       )
 
-  pub pop : {p : ℕ} {r : Popped} {m : List ℕ} → r ≡ Pointer p → r ≡ last_free l → m ≡ without_last l
+  pub pop : {p : ℕ} {r : Option ℕ} {m : List ℕ} → r ≡ Some p → r ≡ last_free l → m ≡ without_last l
       → (p ≡ (allocate (read_allocator l)).pointer) × (m ≡ lay_allocator (allocate (read_allocator l)).after)
   unfolding read_allocator allocate
   pop {p} {r} {m} e h w = go (eqb (word l 16) 0) refl
@@ -102,19 +100,25 @@ module _ (l : List ℕ) (b : Bytes l) (f : WordsFormed l) where
   as_step : (s : ℕ) (t : AllocatorStep) {m : List ℕ} → t ≡ set_chunk_size s (read_allocator l) → m ≡ lay_allocator t.after → SizeStep s t.answer m
   as_step s t e h = (ap (λ u. u.answer) e, h ∙ ap (λ u. lay_allocator u.after) e)
 
-  pub size-not-accepted : (s : ℕ) → accepted_size s ≡ false → SizeStep s (Refused InvalidArgument) l
+  pub size-not-accepted : (s : ℕ) → accepted_size s ≡ false → SizeStep s (Err InvalidArgument) l
   unfolding set_chunk_size
-  size-not-accepted s h = as_step s (record { answer = Refused InvalidArgument; after = read_allocator l }) (pick-false _ _ _ _ h refl) (sym (laid-again l b f))
+  size-not-accepted s h = as_step s (record { answer = Err InvalidArgument; after = read_allocator l }) (pick-false _ _ _ _ h refl) (sym (laid-again l b f))
 
   module _ (s : ℕ) (h : accepted_size s ≡ true) where
-    pub size-kept : word l 8 ≡ s → SizeStep s (Done 0) l
+    pub size-kept : word l 8 ≡ s → SizeStep s (Ok 0) l
     unfolding set_chunk_size read_allocator
-    size-kept e = as_step s (record { answer = Done 0; after = read_allocator l }) (pick_true _ _ _ _ h (pick_true _ _ _ _ (eq-eqb _ _ e) refl)) (sym (laid-again l b f))
+    size-kept e = as_step s (record { answer = Ok 0; after = read_allocator l }) (pick_true _ _ _ _ h (pick_true _ _ _ _ (eq-eqb _ _ e) refl)) (sym (laid-again l b f))
 
-    pub size-too-late : (word l 8 ≡ s → ⊥) → (word l 24 ≡ 0 → ⊥) → SizeStep s (Refused InvalidArgument) l
+    pub size-too-late : (word l 8 ≡ s → ⊥) → (word l 24 ≡ 0 → ⊥) → SizeStep s (Err InvalidArgument) l
     unfolding set_chunk_size read_allocator
-    size-too-late e n = as_step s (record { answer = Refused InvalidArgument; after = read_allocator l }) (pick_true _ _ _ _ h (pick-false _ _ _ _ (ne_eqb _ _ e) (pick-false _ _ _ _ (ne_eqb _ _ n) refl))) (sym (laid-again l b f))
+    size-too-late e n = as_step s (record { answer = Err InvalidArgument; after = read_allocator l }) (pick_true _ _ _ _ h (pick-false _ _ _ _ (ne_eqb _ _ e) (pick-false _ _ _ _ (ne_eqb _ _ n) refl))) (sym (laid-again l b f))
 
-    pub size-changed : {m : List ℕ} → (word l 8 ≡ s → ⊥) → word l 24 ≡ 0 → m ≡ over l 8 (spell 8 s) → SizeStep s (Done 0) m
+    pub size-changed : {m : List ℕ} → (word l 8 ≡ s → ⊥) → word l 24 ≡ 0 → m ≡ over l 8 (spell 8 s) → SizeStep s (Ok 0) m
     unfolding set_chunk_size read_allocator
-    size-changed e n q = as_step s (record { answer = Done 0; after = with_size s (read_allocator l) }) (pick_true _ _ _ _ h (pick-false _ _ _ _ (ne_eqb _ _ e) (pick_true _ _ _ _ (eq-eqb _ _ n) refl))) (q ∙ over-l 8 _ ∙ put-size (read_allocator l) (read_fits l b f).twelve s)
+    size-changed e n q = as_step s (record { answer = Ok 0; after = with_size s (read_allocator l) }) (pick_true _ _ _ _ h (pick-false _ _ _ _ (ne_eqb _ _ e) (pick_true _ _ _ _ (eq-eqb _ _ n) refl))) (q ∙ over-l 8 _ ∙ put-size (read_allocator l) (read_fits l b f).twelve s)
+
+-- ---- what the calls need
+
+pub ruleset allocating = (no_last, none_free, grow, pop)
+
+pub ruleset resizing = (size-not-accepted, size-kept, size-too-late, size-changed)

@@ -1,11 +1,10 @@
 -- Believed: the allocator's words as a record, read off its bytes and laid out again, and what each call makes of it.
 -- Assumes nothing.
-use Rattle.std.specs.Prelude.{ℕ, ◌+◌, ◌-◌, ◌/◌, List, [], ◌∷◌, ◌++◌, length, take, get_or, set, eqb}
+use Rattle.std.specs.Prelude.{ℕ, ◌+◌, ◌-◌, ◌/◌, List, [], ◌∷◌, ◌++◌, length, take, get_or, set, eqb, Ok, Err}
 use Rattle.words.specs.Bytes.{word}
 use Rattle.words.specs.Rules.{pick}
 use Rattle.words.specs.Tables.{table, lay_words}
-use Rattle.types.specs.declared.Answer.{Answer}
-use Rattle.types.specs.declared.Answer.TheVariants.{Done, Refused}
+use Rattle.types.specs.Answers.{Answer}
 use Rattle.types.specs.declared.Error.TheVariants.{InvalidArgument}
 use Rattle.allocator.specs.Sizes.{accepted_size}
 
@@ -91,10 +90,10 @@ pub record AllocatorStep : Type 0 where
 unfoldable pub set_chunk_size : ℕ → Allocator → AllocatorStep
 set_chunk_size s a =
     pick (accepted_size s)
-    (pick (eqb a.chunk_size s) (record { answer = Done 0; after = a })
-    (pick (eqb a.next_ptr 0) (record { answer = Done 0; after = with_size s a })
-    (record { answer = Refused InvalidArgument; after = a })))
-    (record { answer = Refused InvalidArgument; after = a })
+    (pick (eqb a.chunk_size s) (record { answer = Ok 0; after = a })
+    (pick (eqb a.next_ptr 0) (record { answer = Ok 0; after = with_size s a })
+    (record { answer = Err InvalidArgument; after = a })))
+    (record { answer = Err InvalidArgument; after = a })
 
 -- pointers freed one after another
 unfoldable pub released : List ℕ → Allocator → Allocator

@@ -1,39 +1,31 @@
 -- What create does, step by step: its refusals, which leave the bytes as they were, and what its stores leave.
 -- Assumes nothing.
+use Rattle.std.specs.Prelude.{Some, None, Ok, Err}
 use mathlib.Core.Path.{◌≡◌, refl, sym, ap, ◌∙◌}
 use mathlib.Core.Bool.{Bool, true}
 use mathlib.Core.List.{List, [], ◌∷◌, ◌++◌}
 use Prim.Native.Nat.{ℕ, ◌+◌, ◌^◌, ◌<◌}
 use native.Mathlib.Omega.{arith}
 use lib.ListN.{length}
-use denote.Enum.Declared.{tag_of}
-use Rattle.types.specs.declared.Answer.TheVariants.{Done, Refused}
 use Rattle.types.specs.declared.Error.{Error}
 use Rattle.types.specs.declared.Error.TheVariants.{InvalidArgument}
 use Rattle.types.specs.declared.FileType.{FileType}
 use Rattle.types.specs.declared.NodeRecord.{NodeRecord}
 use Rattle.paths.specs.Path.{name_allowed}
 use Rattle.volume.specs.declared.Layout.{Layout}
-use Rattle.volume.specs.declared.kinds.Kind.{Kind}
-use Rattle.volume.specs.declared.kinds.Kind.TheVariants.{Known, Unknown}
-use Rattle.volume.specs.Kinds.{kind_of}
+use Rattle.types.specs.Kinds.{kind_of}
 use Rattle.volume.specs.Volume.{Names, Volume, shown, laid, with_next_node, with_nodes, on_names}
 use Rattle.volume.specs.Framed.{NamesFits, Fits}
 use Rattle.volume.specs.Sound.{Good}
 use Rattle.volume.specs.Steps.{NamesStep, remain, turn}
 use Rattle.volume.proofs.Framed.{fits_next}
-use Rattle.volume.specs.contracts.kinds.Kind.{the_type}
 use Rattle.tables.specs.Tables.{Ready}
 use Rattle.tables.proofs.ChangedRow.{length-changed}
 use Rattle.tables.proofs.ReadyVolume.{shown-as, ready-as}
 use Rattle.files.specs.declared.files.RowAt.{RowAt}
 use Rattle.names.specs.Entering.{most_node, with_entry, new_node, created, no_row_room, on_kind, where_new, create}
 use Rattle.names.proofs.Created.{created-kept, room-left}
-use Rattle.directories.specs.declared.entering.ParentRow.{ParentRow}
-use Rattle.directories.specs.declared.entering.ParentRow.TheVariants as parent
 use Rattle.directories.specs.declared.entering.Spot.{Spot}
-use Rattle.directories.specs.declared.entering.NewSpot.{NewSpot}
-use Rattle.directories.specs.declared.entering.NewSpot.TheVariants as spot
 use Rattle.directories.specs.Spots.{parent_found, IsParent, new_spot, spot_found}
 use Rattle.directories.proofs.ParentRows.{parent-found, parent-goes-on, parent-refused}
 use Rattle.directories.proofs.NewSpots.{IsSpot, spot-found, spot-goes-on, spot-refused, spot-enters}
@@ -60,34 +52,33 @@ module _ (l : List ℕ) (y : Layout) (ready : Ready l y) (good : Good (shown l))
 
   -- ---- the refusals
 
-  pub create-homeless : {r : ParentRow} {e : Error} → r ≡ parent.Refused e → r ≡ parent_found p name a.nodes → NameMeets (Refused e) l (create p name byte) v
+  pub create-homeless : {e : Error} → Err e ≡ parent_found p name a.nodes → NameMeets (Err e) l (create p name byte) v
   unfolding create
-  create-homeless {r} {e} k h = name-refused l ready.formed (create p name byte) e (parent-refused p name a good.named.node_order (λ x. remain x a) from_parent k h)
+  create-homeless {e} h = name-refused l ready.formed (create p name byte) e (parent-refused p name a good.named.node_order (λ x. remain x a) from_parent h)
 
-  module _ {r : ParentRow} {d : RowAt} (k : r ≡ parent.At d) (h : r ≡ parent_found p name a.nodes) where
+  module _ {d : RowAt} (h : Ok d ≡ parent_found p name a.nodes) where
     its : IsParent p a d × (name_allowed name ≡ true)
-    its = parent-found p name a good.named.node_order k h
+    its = parent-found p name a good.named.node_order h
 
     past-parent : {s : NamesStep} → s ≡ from_parent → s ≡ create p name byte a
     unfolding create
     past-parent e = e ∙ parent-goes-on p name a good.named.node_order (λ x. remain x a) from_parent its.0 its.1
 
-    pub create-kindless : (c : Kind) → tag_of the_type c ≡ 1 → c ≡ kind_of byte → NameMeets (Refused InvalidArgument) l (create p name byte) v
+    pub create-kindless : None ≡ kind_of byte → NameMeets (Err InvalidArgument) l (create p name byte) v
     unfolding on_kind
-    create-kindless (Known kind) t e = absurd (omega arith)
-    create-kindless Unknown t e = name-refused l ready.formed (create p name byte) InvalidArgument (past-parent (rw (← e) refl))
+    create-kindless e = name-refused l ready.formed (create p name byte) InvalidArgument (past-parent (rw (← e) refl))
 
-    module _ {c : Kind} {kind : FileType} (kk : c ≡ Known kind) (hk : c ≡ kind_of byte) {full : Bool} (used : full ≡ no_row_room a) where
+    module _ {kind : FileType} (known : Some kind ≡ kind_of byte) {full : Bool} (used : full ≡ no_row_room a) where
       past-kind : {s : NamesStep} → s ≡ where_new p name full a (from_spot kind) → s ≡ create p name byte a
       unfolding on_kind
-      past-kind {s} e = past-parent (e ∙ ap (λ f. where_new p name f a (from_spot kind)) used ∙ ap (on_kind (remain InvalidArgument a) from_kind) (sym kk ∙ hk))
+      past-kind {s} e = past-parent (e ∙ ap (λ f. where_new p name f a (from_spot kind)) used ∙ ap (on_kind (remain InvalidArgument a) from_kind) known)
 
-      pub create-crowded : {q : NewSpot} {e : Error} → q ≡ spot.Refused e → q ≡ spot_found p name full a.entries → NameMeets (Refused e) l (create p name byte) v
-      create-crowded {q} {e} ks hs = name-refused l ready.formed (create p name byte) e (past-kind (spot-refused p name full a (from_spot kind) ks hs))
+      pub create-crowded : {e : Error} → Err e ≡ spot_found p name full a.entries → NameMeets (Err e) l (create p name byte) v
+      create-crowded {e} hs = name-refused l ready.formed (create p name byte) e (past-kind (spot-refused p name full a (from_spot kind) hs))
 
-      module _ {q : NewSpot} {s : Spot} (ks : q ≡ spot.At s) (hs : q ≡ spot_found p name full a.entries) where
+      module _ {s : Spot} (hs : Ok s ≡ spot_found p name full a.entries) where
         here : IsSpot p name full a s
-        here = spot-found p name full a ks hs
+        here = spot-found p name full a hs
 
         left : (length a.nodes < a.node_room) × (length a.entries < a.entry_room) × (a.next_node ≡ most_node → ⊥)
         left = room-left a (sym used ∙ here.free)
@@ -138,7 +129,7 @@ module _ (l : List ℕ) (y : Layout) (ready : Ready l y) (good : Good (shown l))
             unfolding with_entry
             create-moves = ready-as v₂ fits₂ laid₂ ready.layout
 
-            pub create-done : {z : List ℕ} → z ≡ laid (on_names (with_next_node (n + 1)) (shown o)) → NameMeets (Done n) z (create p name byte) v
+            pub create-done : {z : List ℕ} → z ≡ laid (on_names (with_next_node (n + 1)) (shown o)) → NameMeets (Ok n) z (create p name byte) v
             unfolding created
             create-done {z} g =
                 let whole : z ≡ laid (record { names = created p name kind a; store = v.store }) = g ∙ rw (shown-as v₂ fits₂ laid₂, next) in

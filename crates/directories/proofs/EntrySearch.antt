@@ -1,9 +1,9 @@
 -- A search among a directory's entries ends where the definitions say: at the entry that has the name, or at the next one from an index.
 -- Assumes nothing.
+use Rattle.std.specs.Prelude.{Some, None, Result, Ok, Err}
 use mathlib.Core.Path.{◌≡◌, refl, sym, ap, ◌∙◌}
 use mathlib.Core.Bool.{Bool, true, false}
 use mathlib.Core.List.{List, []}
-use mathlib.Core.Logic.{◌⊎◌, inl, inr}
 use mathlib.Core.Option.{Option, none, some}
 use Prim.Native.Nat.{ℕ, ◌+◌, ◌-◌, ◌≤◌, ◌<◌, min}
 use native.Mathlib.Omega.{arith}
@@ -11,34 +11,25 @@ use native.Mathlib.Decide.{dec_lt}
 use lib.Dec.{eqb, ltb}
 use lib.ListN.{length, drop, length-drop}
 use borrow.Author.Tests.{eq-eqb, ne_eqb, lt-ltb, le-ltb, ltb-true}
-use denote.Enum.Declared.{tag_of}
 use Rattle.words.specs.Rules.{pick, same}
 use Rattle.words.specs.Tables.{lead, Asc}
 use Rattle.words.proofs.Joined.{both_true}
 use Rattle.words.proofs.Rules.{pick_true, pick-false, stop, go_on}
 use Rattle.words.proofs.Search.{lead-le, walk_turn, walk-stop, walk_end}
 use Rattle.types.specs.Nodes.{is_directory}
-use Rattle.types.specs.declared.Answer.{Answer}
-use Rattle.types.specs.declared.Answer.TheVariants.{Done, Refused}
 use Rattle.types.specs.declared.Error.{Error}
 use Rattle.types.specs.declared.Error.TheVariants.{NoSuchEntry, NotDirectory}
 use Rattle.types.specs.declared.NodeRecord.{NodeRecord}
-use Rattle.types.specs.contracts.Answer as AnswerType
 use Rattle.volume.specs.Rows.{Entry, read_entry}
 use Rattle.volume.specs.Search.{entry_under}
 use Rattle.volume.specs.Sound.{node, node_before}
 use Rattle.volume.specs.Volume.{Names}
-use Rattle.tables.specs.Tables.{node_at, entry_at, found_node}
-use Rattle.tables.specs.declared.Found.{Found}
-use Rattle.tables.specs.declared.Found.TheVariants as found
-use Rattle.tables.specs.contracts.Found as FoundType
+use Rattle.tables.specs.Tables.{node_at, entry_at, found_node, Found}
 use Rattle.tables.proofs.TableSearch.{node-found, node-absent}
 use Rattle.names.specs.Listing.{on_directory}
 use Rattle.directories.specs.declared.searching.Searched.{Searched}
 use Rattle.directories.specs.declared.searching.Searched.TheVariants.{At, Absent, Stopped}
-use Rattle.directories.specs.declared.listing.NextPlace.TheVariants as next
 use Rattle.directories.specs.Searches.{directory_there, other_name, entry_there, searched_from, searched, found_from, entry_found, next_in}
-use Rattle.directories.specs.contracts.searching.Searched as SearchedType
 
 -- ---- as code finds it
 
@@ -132,76 +123,77 @@ module _ (d : ℕ) (name : List ℕ) (es : List Entry) {most : ℕ} (room : leng
           let b : false ≡ entry_there d es (start + passed) = past_end d es (omega arith) in
           sym (pick-false _ _ _ _ (le-ltb passed most (omega arith)) (rw (k, ← b) refl))
 
-  pub found-place : {p k : ℕ} → At p k ≡ searched d name 0 most es → found.At p ≡ entry_found d name es
+  pub found-place : {p k : ℕ} → At p k ≡ searched d name 0 most es → Some p ≡ entry_found d name es
   unfolding entry_found found_from pick
   found-place {p} {k} e = go (entry_there d es (start + passed)) (e ∙ unlimited)
     where
-      go : (b : Bool) → At p k ≡ pick b (At (start + passed) (passed + 1)) (Absent passed) → found.At p ≡ pick b (found.At (start + passed)) found.Nothing
-      go true q = let i : p ≡ start + passed = cc in ap found.At i
-      go false q = let x : ◌≡◌ {A = ℕ} 0 1 = cc in absurd (omega arith)
+      go : (b : Bool) → At p k ≡ pick b (At (start + passed) (passed + 1)) (Absent passed) → Some p ≡ pick b (Some (start + passed)) None
+      go true q = let i : p ≡ start + passed = cc in ap Some i
+      go false q = absurd cc
 
-  pub no_place : (s : Searched) → (tag_of SearchedType.the_type s ≡ 1) ⊎ (tag_of SearchedType.the_type s ≡ 2) → s ≡ searched d name 0 most es → found.Nothing ≡ entry_found d name es
+  pub no_place : {s : Searched} → ((p k : ℕ) → s ≡ At p k → ⊥) → s ≡ searched d name 0 most es → None ≡ entry_found d name es
   unfolding entry_found found_from pick
-  no_place s n e = go (entry_there d es (start + passed)) (e ∙ unlimited)
+  no_place {s} n e = go (entry_there d es (start + passed)) (e ∙ unlimited)
     where
-      not_at : {p k : ℕ} → s ≡ At p k → (tag_of SearchedType.the_type s ≡ 1) ⊎ (tag_of SearchedType.the_type s ≡ 2) → ⊥
-      not_at q (inl t) = let x : ◌≡◌ {A = ℕ} 0 1 = ap (tag_of SearchedType.the_type) (sym q) ∙ t in omega arith
-      not_at q (inr t) = let x : ◌≡◌ {A = ℕ} 0 2 = ap (tag_of SearchedType.the_type) (sym q) ∙ t in omega arith
-
-      go : (b : Bool) → s ≡ pick b (At (start + passed) (passed + 1)) (Absent passed) → found.Nothing ≡ pick b (found.At (start + passed)) found.Nothing
-      go true q = absurd (not_at q n)
+      go : (b : Bool) → s ≡ pick b (At (start + passed) (passed + 1)) (Absent passed) → None ≡ pick b (Some (start + passed)) None
+      go true q = absurd (n (start + passed) (passed + 1) q)
       go false q = refl
 
 -- ---- a node that is a directory, as code finds it
 
 module _ (d : ℕ) (a : Names) where
-  pub directory-missing : Asc node_before a.nodes → (r : Found) → tag_of FoundType.the_type r ≡ 1 → r ≡ found_node d a.nodes → Refused NoSuchEntry ≡ directory_there d a
+  pub directory-missing : Asc node_before a.nodes → {r : Found} → r ≡ None → r ≡ found_node d a.nodes → Err NoSuchEntry ≡ directory_there d a
   unfolding directory_there on_directory node
-  directory-missing asc (found.At i) t h = absurd (omega arith)
-  directory-missing asc found.Nothing t h = rw (node-absent d a.nodes asc h)
+  directory-missing asc k h = rw (node-absent d a.nodes asc (sym k ∙ h)) refl
 
-  module _ {r : Found} {i : ℕ} (k : r ≡ found.At i) (h : r ≡ found_node d a.nodes) {row : NodeRecord} (q : row ≡ node_at a.nodes i) {b : Bool} (t : b ≡ is_directory row.kind) where
-    pub directory-file : b ≡ false → Refused NotDirectory ≡ directory_there d a
+  module _ {r : Found} {i : ℕ} (k : r ≡ Some i) (h : r ≡ found_node d a.nodes) {row : NodeRecord} (q : row ≡ node_at a.nodes i) {b : Bool} (t : b ≡ is_directory row.kind) where
+    pub directory-file : b ≡ false → Err NotDirectory ≡ directory_there d a
     unfolding directory_there on_directory node
     directory-file e = rw (node-found d a.nodes i (sym k ∙ h)).1 (pick-false _ _ _ _ (rw (← q) (sym t ∙ e)) refl)
 
-    pub directory-is : b ≡ true → Done 0 ≡ directory_there d a
+    pub directory-is : b ≡ true → Ok tt ≡ directory_there d a
     unfolding directory_there on_directory node
     directory-is e = rw (node-found d a.nodes i (sym k ∙ h)).1 (pick_true _ _ _ _ (rw (← q) (sym t ∙ e)) refl)
 
   -- what a call on a directory makes of it
-  module _ {A : Type 0} (refuse : Error → A) (c : A) {there : Answer} (h : there ≡ directory_there d a) where
-    pub directory-refused : {e : Error} → there ≡ Refused e → refuse e ≡ on_directory refuse (λ r. c) (node d a)
+  abbrev ruled : Bool → Result (Unit {0}) Error
+  ruled b = pick b (Ok tt) (Err NotDirectory)
+
+  abbrev ruled_row : Option NodeRecord → Result (Unit {0}) Error
+  ruled_row o = on_directory Err (λ r. Ok tt) o
+
+  module _ {A : Type 0} (refuse : Error → A) (c : A) where
+    pub directory-refused : {e : Error} → Err e ≡ directory_there d a → refuse e ≡ on_directory refuse (λ r. c) (node d a)
     unfolding directory_there on_directory pick
-    directory-refused {e} k = go (node d a) (sym k ∙ h)
+    directory-refused {e} h = go (node d a) h
       where
-        of_row : (b : Bool) → Refused e ≡ pick b (Done 0) (Refused NotDirectory) → refuse e ≡ pick b c (refuse NotDirectory)
-        of_row true q = let x : ◌≡◌ {A = ℕ} 0 1 = cc in absurd (omega arith)
+        of_row : (b : Bool) → Err e ≡ ruled b → refuse e ≡ pick b c (refuse NotDirectory)
+        of_row true q = absurd cc
         of_row false q = let x : e ≡ NotDirectory = cc in ap refuse x
 
-        go : (o : Option NodeRecord) → Refused e ≡ on_directory Refused (λ r. Done 0) o → refuse e ≡ on_directory refuse (λ r. c) o
+        go : (o : Option NodeRecord) → Err e ≡ ruled_row o → refuse e ≡ on_directory refuse (λ r. c) o
         go none q = let x : e ≡ NoSuchEntry = cc in ap refuse x
         go (some r) q = of_row (is_directory r.kind) q
 
-    pub directory-goes-on : tag_of AnswerType.the_type there ≡ 0 → {x : A} → x ≡ c → x ≡ on_directory refuse (λ r. c) (node d a)
+    pub directory-goes-on : {u : Unit {0}} → Ok u ≡ directory_there d a → {x : A} → x ≡ c → x ≡ on_directory refuse (λ r. c) (node d a)
     unfolding directory_there on_directory pick
-    directory-goes-on t {x} y = go (node d a) (ap (tag_of AnswerType.the_type) (sym h) ∙ t)
+    directory-goes-on {u} h {x} y = go (node d a) h
       where
-        of_row : (b : Bool) → tag_of AnswerType.the_type (pick b (Done 0) (Refused NotDirectory)) ≡ 0 → x ≡ pick b c (refuse NotDirectory)
+        of_row : (b : Bool) → Ok u ≡ ruled b → x ≡ pick b c (refuse NotDirectory)
         of_row true q = y
-        of_row false q = absurd (omega (arith, q))
+        of_row false q = absurd cc
 
-        go : (o : Option NodeRecord) → tag_of AnswerType.the_type (on_directory Refused (λ r. Done 0) o) ≡ 0 → x ≡ on_directory refuse (λ r. c) o
-        go none q = absurd (omega (arith, q))
+        go : (o : Option NodeRecord) → Ok u ≡ ruled_row o → x ≡ on_directory refuse (λ r. c) o
+        go none q = absurd cc
         go (some r) q = of_row (is_directory r.kind) q
 
 -- ---- the next entry, as code finds it
 
 module _ (d : ℕ) (es : List Entry) (p : ℕ) {b : Bool} (u : b ≡ entry_there d es p) where
-  pub next-none : b ≡ false → next.Refused NoSuchEntry ≡ next_in d es p
+  pub next-none : b ≡ false → Err NoSuchEntry ≡ next_in d es p
   unfolding next_in
   next-none z = pick-false _ _ _ _ (sym u ∙ z) refl
 
-  pub next-at : b ≡ true → next.At p ≡ next_in d es p
+  pub next-at : b ≡ true → Ok p ≡ next_in d es p
   unfolding next_in
   next-at z = pick_true _ _ _ _ (sym u ∙ z) refl

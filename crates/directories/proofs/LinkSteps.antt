@@ -1,5 +1,6 @@
 -- What link does, step by step: its refusals, which leave the bytes as they were, and what its stores leave.
 -- Assumes nothing.
+use Rattle.std.specs.Prelude.{Some, Ok, Err}
 use mathlib.Core.Path.{◌≡◌, refl, sym, ap, ◌∙◌}
 use mathlib.Core.Bool.{Bool, true}
 use mathlib.Core.List.{List}
@@ -10,7 +11,6 @@ use lib.Dec.{eqb, leb}
 use lib.ListN.{length, set}
 use borrow.Author.Tests.{leb-false}
 use Rattle.words.proofs.Counting.{bit-most}
-use Rattle.types.specs.declared.Answer.TheVariants.{Done, Refused}
 use Rattle.types.specs.declared.Error.{Error}
 use Rattle.types.specs.declared.NodeRecord.{NodeRecord}
 use Rattle.types.proofs.Nodes.{no-directory}
@@ -22,21 +22,14 @@ use Rattle.volume.specs.Sound.{node, NodeGood, Good}
 use Rattle.volume.specs.Steps.{NamesStep, remain, turn, changed}
 use Rattle.volume.specs.Files.{on_file}
 use Rattle.tables.specs.Tables.{Ready, node_at, found_node}
-use Rattle.tables.specs.declared.Found.TheVariants as found
 use Rattle.tables.proofs.ChangedRow.{length-changed, order-kept, row-set}
 use Rattle.tables.proofs.NodeRows.{node-each}
 use Rattle.files.specs.declared.files.RowAt.{RowAt}
-use Rattle.files.specs.declared.files.FileRow.{FileRow}
-use Rattle.files.specs.declared.files.FileRow.TheVariants as file
 use Rattle.tables.proofs.ChangedPlaces.{other_place, found-changed}
 use Rattle.files.proofs.FileRows.{IsFile, file-found, file-goes-on, file-refused}
 use Rattle.names.specs.Entering.{with_entry, linked_to, where_new, link}
 use Rattle.names.proofs.Grown.{naming-most}
-use Rattle.directories.specs.declared.entering.ParentRow.{ParentRow}
-use Rattle.directories.specs.declared.entering.ParentRow.TheVariants as parent
 use Rattle.directories.specs.declared.entering.Spot.{Spot}
-use Rattle.directories.specs.declared.entering.NewSpot.{NewSpot}
-use Rattle.directories.specs.declared.entering.NewSpot.TheVariants as spot
 use Rattle.directories.specs.Spots.{parent_found, IsParent, new_spot, spot_found}
 use Rattle.directories.proofs.ParentRows.{parent-found, parent-goes-on, parent-refused}
 use Rattle.directories.proofs.NewSpots.{IsSpot, spot-found, spot-goes-on, spot-refused, spot-enters}
@@ -69,37 +62,37 @@ module _ (l : List ℕ) (y : Layout) (ready : Ready l y) (good : Good (shown l))
 
   -- ---- the refusals
 
-  pub link-homeless : {r : ParentRow} {e : Error} → r ≡ parent.Refused e → r ≡ parent_found p name a.nodes → NameMeets (Refused e) l (link p name t) v
+  pub link-homeless : {e : Error} → Err e ≡ parent_found p name a.nodes → NameMeets (Err e) l (link p name t) v
   unfolding link
-  link-homeless {r} {e} k h = name-refused l ready.formed (link p name t) e (parent-refused p name a good.named.node_order refuse (on_file t a refuse from_target) k h)
+  link-homeless {e} h = name-refused l ready.formed (link p name t) e (parent-refused p name a good.named.node_order refuse (on_file t a refuse from_target) h)
 
-  module _ {r : ParentRow} {d : RowAt} (k : r ≡ parent.At d) (h : r ≡ parent_found p name a.nodes) where
+  module _ {d : RowAt} (h : Ok d ≡ parent_found p name a.nodes) where
     its : IsParent p a d × (name_allowed name ≡ true)
-    its = parent-found p name a good.named.node_order k h
+    its = parent-found p name a good.named.node_order h
 
     past-parent : {s : NamesStep} → s ≡ on_file t a refuse from_target → s ≡ link p name t a
     unfolding link
     past-parent e = e ∙ parent-goes-on p name a good.named.node_order refuse (on_file t a refuse from_target) its.0 its.1
 
-    pub link-targetless : {c : FileRow} {e : Error} → c ≡ file.Refused e → c ≡ file_found t a.nodes → NameMeets (Refused e) l (link p name t) v
-    link-targetless {c} {e} kt ht = name-refused l ready.formed (link p name t) e (past-parent (file-refused refuse from_target t a good.named.node_order kt ht))
+    pub link-targetless : {e : Error} → Err e ≡ file_found t a.nodes → NameMeets (Err e) l (link p name t) v
+    link-targetless {e} ht = name-refused l ready.formed (link p name t) e (past-parent (file-refused refuse from_target t a good.named.node_order refl ht))
 
-    module _ {c : FileRow} {f : RowAt} (kt : c ≡ file.At f) (ht : c ≡ file_found t a.nodes) {full : Bool} (used : full ≡ leb a.entry_room (length a.entries)) where
+    module _ {f : RowAt} (ht : Ok f ≡ file_found t a.nodes) {full : Bool} (used : full ≡ leb a.entry_room (length a.entries)) where
       target : IsFile t a f
-      target = file-found t a kt ht
+      target = file-found t a refl ht
 
       target_small : t < 2 ^ 64
       target_small = rw (← target.number) (node-each t a f.row target.row NodeFits ready.formed.fits.names.node_rows).node
 
       past-target : {s : NamesStep} → s ≡ where_new p name full a from_spot → s ≡ link p name t a
-      past-target e = past-parent (e ∙ ap (λ u. where_new p name u a from_spot) used ∙ file-goes-on t a kt ht refuse from_target)
+      past-target e = past-parent (e ∙ ap (λ u. where_new p name u a from_spot) used ∙ file-goes-on t a refl ht refuse from_target)
 
-      pub link-crowded : {q : NewSpot} {e : Error} → q ≡ spot.Refused e → q ≡ spot_found p name full a.entries → NameMeets (Refused e) l (link p name t) v
-      link-crowded {q} {e} ks hs = name-refused l ready.formed (link p name t) e (past-target (spot-refused p name full a from_spot ks hs))
+      pub link-crowded : {e : Error} → Err e ≡ spot_found p name full a.entries → NameMeets (Err e) l (link p name t) v
+      link-crowded {e} hs = name-refused l ready.formed (link p name t) e (past-target (spot-refused p name full a from_spot hs))
 
-      module _ {q : NewSpot} {s : Spot} (ks : q ≡ spot.At s) (hs : q ≡ spot_found p name full a.entries) where
+      module _ {s : Spot} (hs : Ok s ≡ spot_found p name full a.entries) where
         here : IsSpot p name full a s
-        here = spot-found p name full a ks hs
+        here = spot-found p name full a hs
 
         enterable : Enterable p name a
         enterable = spot-enters p name full a here its.1 (leb-false _ _ (sym used ∙ here.free))
@@ -128,7 +121,7 @@ module _ (l : List ℕ) (y : Layout) (ready : Ready l y) (good : Good (shown l))
         abbrev v₁ : Volume
         v₁ = on_names (with_entry p name t) v
 
-        target-place : found.At f.place ≡ found_node t rows
+        target-place : Some f.place ≡ found_node t rows
         target-place = target.found ∙ sym (found-changed p entry_more (λ x. refl) t a.nodes)
 
         target_row : f.row ≡ node_at rows f.place
@@ -143,7 +136,7 @@ module _ (l : List ℕ) (y : Layout) (ready : Ready l y) (good : Good (shown l))
           unfolding with_entry
           link-changes = (entered-ready l y ready good p name t target_small its.0 enterable e, rw (shown₁, length-changed p entry_more a.nodes) target.place)
 
-          pub link-done : {row : NodeRecord} → row ≡ link_more f.row → {o : List ℕ} → o ≡ laid (on_names (with_nodes (set (shown m).names.nodes f.place row)) (shown m)) → NameMeets (Done 0) o (link p name t) v
+          pub link-done : {row : NodeRecord} → row ≡ link_more f.row → {o : List ℕ} → o ≡ laid (on_names (with_nodes (set (shown m).names.nodes f.place row)) (shown m)) → NameMeets (Ok 0) o (link p name t) v
           unfolding linked_to with_entry
           link-done new {o} g =
               let whole : o ≡ laid (record { names = linked_to p name t a; store = v.store }) = row-set t link_more rows f.place (order-kept p entry_more (λ x. refl) a.nodes good.named.node_order) target-place (new ∙ ap link_more target_row) v₁ refl m shown₁ g in

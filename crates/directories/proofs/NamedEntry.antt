@@ -1,5 +1,6 @@
 -- A search among a directory's entries tells what the definitions tell: of the entry that has the name, of a limit, and that there is none.
 -- Assumes nothing.
+use Rattle.std.specs.Prelude.{Some, None}
 use mathlib.Core.Path.{◌≡◌, refl, sym, ap, ◌∙◌}
 use mathlib.Core.Bool.{Bool, true, false, false≢true}
 use mathlib.Core.List.{List, [], ◌∷◌}
@@ -22,7 +23,6 @@ use Rattle.volume.specs.Rows.{Entry, read_entry}
 use Rattle.volume.specs.Search.{entry_under}
 use Rattle.volume.specs.Sound.{entry_before}
 use Rattle.tables.specs.Tables.{entry_at}
-use Rattle.tables.specs.declared.Found.TheVariants as found
 use Rattle.names.specs.Entries.{entry_named}
 use Rattle.names.specs.Searching.{entries_from, named_from, looked_through}
 use Rattle.names.proofs.LookedThrough.{other, Told, told-found, told-absent, told-stopped, told, first-named, none_named}
@@ -130,29 +130,29 @@ module _ (d : ℕ) (name : List ℕ) (from : ℕ) (es : List Entry) (asc : Asc e
           rw (e, t.1) (shows-stopped (first + most) most (there-inside d es t.0))
 
   -- the numbers that code makes of a place are the entry's
-  module _ (most : ℕ) {r : Searched} (h : r ≡ searched d name from most es) where
-    pub found-told : {p k : ℕ} → r ≡ At p k → (p < length es) × ((i n : ℕ) → i ≡ (entry_at es p).index → n ≡ (entry_at es p).node → told.Found i n k ≡ looked_through name most among)
-    found-told {p} {k} q = go (searched d name from most es) (looked_through name most among) (search-shows most) (sym q ∙ h)
+  module _ (most : ℕ) where
+    pub found-told : {p k : ℕ} → At p k ≡ searched d name from most es → (p < length es) × ((i n : ℕ) → i ≡ (entry_at es p).index → n ≡ (entry_at es p).node → told.Found i n k ≡ looked_through name most among)
+    found-told {p} {k} q = go (searched d name from most es) (looked_through name most among) (search-shows most) q
       where
         go : (x : Searched) (s : Search) → ShowsSearch x s → At p k ≡ x → (p < length es) × ((i n : ℕ) → i ≡ (entry_at es p).index → n ≡ (entry_at es p).node → told.Found i n k ≡ s)
         go _ _ (shows-found q j b) e = let y : p ≡ q = cc in let z : k ≡ j = cc in (rw y b, λ i n u v. rw (u, v, y, z))
-        go _ _ (shows-absent j) e = let y : ◌≡◌ {A = ℕ} 0 1 = cc in absurd (omega arith)
-        go _ _ (shows-stopped q j b) e = let y : ◌≡◌ {A = ℕ} 0 2 = cc in absurd (omega arith)
+        go _ _ (shows-absent j) e = absurd cc
+        go _ _ (shows-stopped q j b) e = absurd cc
 
-    pub absent-told : {k : ℕ} → r ≡ Absent k → told.Absent k ≡ looked_through name most among
-    absent-told {k} q = go (searched d name from most es) (looked_through name most among) (search-shows most) (sym q ∙ h)
+    pub absent-told : {k : ℕ} → Absent k ≡ searched d name from most es → told.Absent k ≡ looked_through name most among
+    absent-told {k} q = go (searched d name from most es) (looked_through name most among) (search-shows most) q
       where
         go : (x : Searched) (s : Search) → ShowsSearch x s → Absent k ≡ x → told.Absent k ≡ s
-        go _ _ (shows-found q j b) e = let y : ◌≡◌ {A = ℕ} 0 1 = cc in absurd (omega arith)
+        go _ _ (shows-found q j b) e = absurd cc
         go _ _ (shows-absent j) e = let z : k ≡ j = cc in ap told.Absent z
-        go _ _ (shows-stopped q j b) e = let y : ◌≡◌ {A = ℕ} 1 2 = cc in absurd (omega arith)
+        go _ _ (shows-stopped q j b) e = absurd cc
 
-    pub stopped-told : {p k : ℕ} → r ≡ Stopped p k → (p < length es) × ((i : ℕ) → i ≡ (entry_at es p).index → told.Stopped i k ≡ looked_through name most among)
-    stopped-told {p} {k} q = go (searched d name from most es) (looked_through name most among) (search-shows most) (sym q ∙ h)
+    pub stopped-told : {p k : ℕ} → Stopped p k ≡ searched d name from most es → (p < length es) × ((i : ℕ) → i ≡ (entry_at es p).index → told.Stopped i k ≡ looked_through name most among)
+    stopped-told {p} {k} q = go (searched d name from most es) (looked_through name most among) (search-shows most) q
       where
         go : (x : Searched) (s : Search) → ShowsSearch x s → Stopped p k ≡ x → (p < length es) × ((i : ℕ) → i ≡ (entry_at es p).index → told.Stopped i k ≡ s)
-        go _ _ (shows-found q j b) e = let y : ◌≡◌ {A = ℕ} 0 2 = cc in absurd (omega arith)
-        go _ _ (shows-absent j) e = let y : ◌≡◌ {A = ℕ} 1 2 = cc in absurd (omega arith)
+        go _ _ (shows-found q j b) e = absurd cc
+        go _ _ (shows-absent j) e = absurd cc
         go _ _ (shows-stopped q j b) e = let y : p ≡ q = cc in let z : k ≡ j = cc in (rw y b, λ i u. rw (u, y, z))
 
 -- ---- the entry that has a name
@@ -190,18 +190,18 @@ module _ (d : ℕ) (name : List ℕ) (es : List Entry) (asc : Asc entry_before e
       go (yes h) = absurd (false≢true (sym t ∙ (there-in d name 0 es asc (lead (other name) all) h).0))
       go (no h) = omega (arith, lead-le (other name) all)
 
-  pub entry_found_lem : {p : ℕ} → found.At p ≡ entry_found d name es → (p < length es) × (entry_named d name es ≡ some (entry_at es p))
+  pub entry_found_lem : {p : ℕ} → Some p ≡ entry_found d name es → (p < length es) × (entry_named d name es ≡ some (entry_at es p))
   unfolding entry_found found_from pick
   entry_found_lem {p} e = go (entry_there d es place) refl (e ∙ ap (found_from d es) place-there)
     where
-      go : (b : Bool) → entry_there d es place ≡ b → found.At p ≡ pick b (found.At place) found.Nothing → (p < length es) × (entry_named d name es ≡ some (entry_at es p))
+      go : (b : Bool) → entry_there d es place ≡ b → Some p ≡ pick b (Some place) None → (p < length es) × (entry_named d name es ≡ some (entry_at es p))
       go true t q = let i : p ≡ place = cc in rw i (there-inside d es t, here (inside t))
-      go false t q = let x : ◌≡◌ {A = ℕ} 0 1 = cc in absurd (omega arith)
+      go false t q = absurd cc
 
-  pub entry-missing : found.Nothing ≡ entry_found d name es → entry_named d name es ≡ none
+  pub entry-missing : None ≡ entry_found d name es → entry_named d name es ≡ none
   unfolding entry_found found_from pick
   entry-missing e = go (entry_there d es place) refl (e ∙ ap (found_from d es) place-there)
     where
-      go : (b : Bool) → entry_there d es place ≡ b → found.Nothing ≡ pick b (found.At place) found.Nothing → entry_named d name es ≡ none
-      go true t q = let x : ◌≡◌ {A = ℕ} 0 1 = cc in absurd (omega arith)
+      go : (b : Bool) → entry_there d es place ≡ b → None ≡ pick b (Some place) None → entry_named d name es ≡ none
+      go true t q = absurd cc
       go false t q = nowhere (outside t)

@@ -1,6 +1,7 @@
 -- The place and the index of a new entry: it stands behind its directory's other entries, and the last of them has the greatest index.
 -- Then what a search for them gives, and what a call makes of it.
 -- Assumes nothing.
+use Rattle.std.specs.Prelude.{Result, Some, None, Ok, Err, is_some}
 use mathlib.Core.Path.{◌≡◌, refl, sym, ap, ◌∙◌, subst}
 use mathlib.Core.Bool.{Bool, true, false}
 use mathlib.Core.List.{List, []}
@@ -12,7 +13,6 @@ use native.Mathlib.Omega.{arith}
 use lib.Dec.{eqb, ltb}
 use lib.ListN.{length}
 use borrow.Author.Tests.{eq-eqb, ne_eqb, lt-ltb}
-use denote.Enum.Declared.{tag_of}
 use Rattle.words.specs.Rules.{pick, Says, holds, fails}
 use Rattle.words.specs.Tables.{lead, Each, Asc}
 use Rattle.words.proofs.Order.{each_at}
@@ -29,17 +29,12 @@ use Rattle.volume.specs.Volume.{Names}
 use Rattle.volume.specs.Sound.{entry_before}
 use Rattle.volume.specs.Steps.{NamesStep, remain}
 use Rattle.volume.proofs.PairOrder.{says-pair}
-use Rattle.tables.specs.Tables.{entry_at}
-use Rattle.tables.specs.declared.Found.{Found}
-use Rattle.tables.specs.declared.Found.TheVariants as found
-use Rattle.tables.specs.contracts.Found as FoundType
+use Rattle.tables.specs.Tables.{entry_at, Found}
 use Rattle.tables.proofs.TableSearch.{entry-falls}
 use Rattle.names.specs.Entries.{entry_named, greatest, on_entry}
 use Rattle.names.specs.Entering.{most_index, where_new}
 use Rattle.names.proofs.Entered.{greatest-above, greatest-within}
 use Rattle.directories.specs.declared.entering.Spot.{Spot}
-use Rattle.directories.specs.declared.entering.NewSpot.{NewSpot}
-use Rattle.directories.specs.declared.entering.NewSpot.TheVariants.{At, Refused}
 use Rattle.directories.specs.Searches.{entry_found}
 use Rattle.directories.specs.Spots.{past_indexes, new_spot, spot_found}
 use Rattle.directories.proofs.NamedEntry.{entry_found_lem, entry-missing}
@@ -101,70 +96,70 @@ module _ (d : ℕ) (es : List Entry) (asc : Asc entry_before es) (fits : Each En
   -- ---- the greatest index, as code finds it from that place
 
   module _ {b : ℕ} (at_place : b ≡ behind) where
-    pub greatest-none : b ≡ 0 → (0 ≡ greatest d es) × (0 ≤ most_index)
+    pub greatest-none : (1 ≤ b → ⊥) → (0 ≡ greatest d es) × (0 ≤ most_index)
     greatest-none z =
         (omega (arith, greatest-within d 0 es (places-each (λ e. e.parent ≡ d → e.index ≤ 0) (read_entry []) es (λ i h e. absurd (omega (arith, stands-before i h e))))), omega arith)
 
-    module _ (some-before : b ≡ 0 → ⊥) where
-      pub last-there : b - 1 < length es
+    module _ {z : ℕ} (before : (1 ≤ b) × (z ≡ b - 1)) where
+      pub last-there : z < length es
       last-there = omega (arith, lead-le (entry_under d past_indexes) es)
 
       -- where the directory has an entry, the last before the place is one
-      last-in : (i : ℕ) → i < length es → (entry_at es i).parent ≡ d → (entry_at es (b - 1)).parent ≡ d
-      last-in i h e = go (dec_lt i (b - 1))
+      last-in : (i : ℕ) → i < length es → (entry_at es i).parent ≡ d → (entry_at es z).parent ≡ d
+      last-in i h e = go (dec_lt i z)
         where
-          go : Dec (i < b - 1) → (entry_at es (b - 1)).parent ≡ d
+          go : Dec (i < z) → (entry_at es z).parent ≡ d
           go (yes k) =
-              stays-in (entry_at es i).parent (entry_at es i).index (entry_at es (b - 1)).parent (entry_at es (b - 1)).index d past_indexes (asc-at entry_before (read_entry []) es asc i (b - 1) k last-there) (place-under (b - 1) last-there (omega arith)) e
-          go (no k) = let q : b - 1 ≡ i = omega (arith, stands-before i h e) in ap (λ (j : ℕ). (entry_at es j).parent) q ∙ e
+              stays-in (entry_at es i).parent (entry_at es i).index (entry_at es z).parent (entry_at es z).index d past_indexes (asc-at entry_before (read_entry []) es asc i z k last-there) (place-under z last-there (omega arith)) e
+          go (no k) = let q : z ≡ i = omega (arith, stands-before i h e) in ap (λ (j : ℕ). (entry_at es j).parent) q ∙ e
 
       -- and no other has a greater index
-      last-most : (entry_at es (b - 1)).parent ≡ d → (i : ℕ) → i < length es → (entry_at es i).parent ≡ d → (entry_at es i).index ≤ (entry_at es (b - 1)).index
-      last-most p i h e = go (dec_lt i (b - 1))
+      last-most : (entry_at es z).parent ≡ d → (i : ℕ) → i < length es → (entry_at es i).parent ≡ d → (entry_at es i).index ≤ (entry_at es z).index
+      last-most p i h e = go (dec_lt i z)
         where
-          go : Dec (i < b - 1) → (entry_at es i).index ≤ (entry_at es (b - 1)).index
-          go (yes k) = omega (arith, rises (entry_at es i).parent (entry_at es i).index (entry_at es (b - 1)).parent (entry_at es (b - 1)).index (asc-at entry_before (read_entry []) es asc i (b - 1) k last-there) (e ∙ sym p))
+          go : Dec (i < z) → (entry_at es i).index ≤ (entry_at es z).index
+          go (yes k) = omega (arith, rises (entry_at es i).parent (entry_at es i).index (entry_at es z).parent (entry_at es z).index (asc-at entry_before (read_entry []) es asc i z k last-there) (e ∙ sym p))
           go (no k) =
-              let q : i ≡ b - 1 = omega (arith, stands-before i h e) in
-              let s : (entry_at es i).index ≡ (entry_at es (b - 1)).index = ap (λ (j : ℕ). (entry_at es j).index) q in
+              let q : i ≡ z = omega (arith, stands-before i h e) in
+              let s : (entry_at es i).index ≡ (entry_at es z).index = ap (λ (j : ℕ). (entry_at es j).index) q in
               omega arith
 
-      module _ {x : ℕ} (its-parent : x ≡ (entry_at es (b - 1)).parent) where
+      module _ {x : ℕ} (its-parent : x ≡ (entry_at es z).parent) where
         pub greatest-other : (x ≡ d → ⊥) → (0 ≡ greatest d es) × (0 ≤ most_index)
         greatest-other n =
             (omega (arith, greatest-within d 0 es (places-each (λ e. e.parent ≡ d → e.index ≤ 0) (read_entry []) es (λ i h e. absurd (n (its-parent ∙ last-in i h e))))), omega arith)
 
-        pub greatest-last : x ≡ d → {k : ℕ} → (k ≡ (entry_at es (b - 1)).index) × (k < past_indexes) → (k ≡ greatest d es) × (k ≤ most_index)
+        pub greatest-last : x ≡ d → {k : ℕ} → (k ≡ (entry_at es z).index) × (k < past_indexes) → (k ≡ greatest d es) × (k ≤ most_index)
         greatest-last q i =
-            let p : (entry_at es (b - 1)).parent ≡ d = sym its-parent ∙ q in
-            let most = greatest-within d (entry_at es (b - 1)).index es (places-each (λ e. e.parent ≡ d → e.index ≤ (entry_at es (b - 1)).index) (read_entry []) es (last-most p)) in
-            let least = each_at (λ e. e.parent ≡ d → e.index ≤ greatest d es) es (b - 1) (read_entry []) (greatest-above d es) last-there p in
+            let p : (entry_at es z).parent ≡ d = sym its-parent ∙ q in
+            let most = greatest-within d (entry_at es z).index es (places-each (λ e. e.parent ≡ d → e.index ≤ (entry_at es z).index) (read_entry []) es (last-most p)) in
+            let least = each_at (λ e. e.parent ≡ d → e.index ≤ greatest d es) es z (read_entry []) (greatest-above d es) last-there p in
             (omega (arith, i.0, most, least), omega (arith, i.1))
 
 -- ---- the ends of the search for a spot
 
 module _ (d : ℕ) (name : List ℕ) (full : Bool) (es : List Entry) (asc : Asc entry_before es) where
-  pub spot-taken : (r : Found) → tag_of FoundType.the_type r ≡ 0 → r ≡ entry_found d name es → Refused NameExists ≡ spot_found d name full es
+  pub spot-taken : (r : Found) → is_some r ≡ true → r ≡ entry_found d name es → Err NameExists ≡ spot_found d name full es
   unfolding spot_found on_entry
-  spot-taken (found.At p) t h = rw (entry_found_lem d name es asc h).1 refl
-  spot-taken found.Nothing t h = absurd (omega arith)
+  spot-taken (Some p) t h = rw (entry_found_lem d name es asc h).1 refl
+  spot-taken None t h = absurd cc
 
   -- the name is new
-  pub spot-new : (r : Found) → tag_of FoundType.the_type r ≡ 1 → r ≡ entry_found d name es → entry_named d name es ≡ none
-  spot-new (found.At p) t h = absurd (omega arith)
-  spot-new found.Nothing t h = entry-missing d name es asc h
+  pub spot-new : (r : Found) → is_some r ≡ false → r ≡ entry_found d name es → entry_named d name es ≡ none
+  spot-new (Some p) t h = absurd cc
+  spot-new None t h = entry-missing d name es asc h
 
   module _ (new : entry_named d name es ≡ none) where
-    pub spot-full : full ≡ true → Refused NoRowRoom ≡ spot_found d name full es
+    pub spot-full : full ≡ true → Err NoRowRoom ≡ spot_found d name full es
     unfolding spot_found on_entry
     spot-full e = rw new (pick_true _ _ _ _ e refl)
 
     module _ (free : full ≡ false) {g : ℕ} (is : (g ≡ greatest d es) × (g ≤ most_index)) where
-      pub spot-last : g ≡ most_index → Refused NoIndexLeft ≡ spot_found d name full es
+      pub spot-last : g ≡ most_index → Err NoIndexLeft ≡ spot_found d name full es
       unfolding spot_found on_entry
       spot-last e = rw new (pick-false _ _ _ _ free (pick_true _ _ _ _ (rw (← is.0) (eq-eqb g most_index e)) refl))
 
-      pub spot-at : (g ≡ most_index → ⊥) → Each EntryFits es → {p : ℕ} → p ≡ lead (entry_under d past_indexes) es → At (record { place = p; index = g + 1 }) ≡ spot_found d name full es
+      pub spot-at : (g ≡ most_index → ⊥) → Each EntryFits es → {p : ℕ} → p ≡ lead (entry_under d past_indexes) es → Ok (record { place = p; index = g + 1 }) ≡ spot_found d name full es
       unfolding spot_found on_entry
       spot-at n fits {p} o =
           let q : p ≡ lead (entry_under d (greatest d es + 1)) es = o ∙ sym (spot-place d es asc fits) in
@@ -180,9 +175,9 @@ pub record IsSpot (d : ℕ) (name : List ℕ) (full : Bool) (a : Names) (s : Spo
   pub index : greatest d a.entries ≡ most_index → ⊥
 
 -- a search ends with such a spot, or with the refusal that a call gives
-data FoundSpot (d : ℕ) (name : List ℕ) (full : Bool) (a : Names) (call : NamesStep) : NewSpot → Type 0 where
-  at-spot : (s : Spot) → IsSpot d name full a s → FoundSpot d name full a call (At s)
-  at_none : (e : Error) → remain e a ≡ where_new d name full a call → FoundSpot d name full a call (Refused e)
+data FoundSpot (d : ℕ) (name : List ℕ) (full : Bool) (a : Names) (call : NamesStep) : Result Spot Error → Type 0 where
+  at-spot : (s : Spot) → IsSpot d name full a s → FoundSpot d name full a call (Ok s)
+  at_none : (e : Error) → remain e a ≡ where_new d name full a call → FoundSpot d name full a call (Err e)
 
 module _ (d : ℕ) (name : List ℕ) (full : Bool) (a : Names) (call : NamesStep) where
   found-spot : FoundSpot d name full a call (spot_found d name full a.entries)
@@ -191,13 +186,13 @@ module _ (d : ℕ) (name : List ℕ) (full : Bool) (a : Names) (call : NamesStep
     where
       free : entry_named d name a.entries ≡ none → (f : Bool) → full ≡ f → (b : Bool) → Says (greatest d a.entries ≡ most_index) b
           → ((s : NamesStep) → s ≡ pick f (remain NoRowRoom a) (pick b (remain NoIndexLeft a) call) → s ≡ where_new d name full a call)
-          → FoundSpot d name full a call (pick f (Refused NoRowRoom) (pick b (Refused NoIndexLeft) (At (new_spot d a.entries))))
+          → FoundSpot d name full a call (pick f (Err NoRowRoom) (pick b (Err NoIndexLeft) (Ok (new_spot d a.entries))))
       free e true q b s up = at_none NoRowRoom (up (remain NoRowRoom a) refl)
       free e false q true s up = at_none NoIndexLeft (up (remain NoIndexLeft a) refl)
       free e false q false (fails s) up = at-spot (new_spot d a.entries) (record { spot = refl; new = e; free = q; index = s })
 
       go : (o : Option Entry) → entry_named d name a.entries ≡ o
-          → FoundSpot d name full a call (on_entry (pick full (Refused NoRowRoom) (pick (eqb (greatest d a.entries) most_index) (Refused NoIndexLeft) (At (new_spot d a.entries)))) (λ e. Refused NameExists) o)
+          → FoundSpot d name full a call (on_entry (pick full (Err NoRowRoom) (pick (eqb (greatest d a.entries) most_index) (Err NoIndexLeft) (Ok (new_spot d a.entries)))) (λ e. Err NameExists) o)
       go none e = free e full refl (eqb (greatest d a.entries) most_index) (says-eqb (greatest d a.entries) most_index) (λ s h. h ∙ rw e refl)
       go (some x) e = at_none NameExists (rw e refl)
 
@@ -207,21 +202,21 @@ module _ (d : ℕ) (name : List ℕ) (full : Bool) (a : Names) (call : NamesStep
   spot-goes-on i = rw i.new (pick-false _ _ _ _ i.free (pick-false _ _ _ _ (ne_eqb (greatest d a.entries) most_index i.index) refl))
 
   -- none found: it gives its refusal
-  pub spot-refused : {r : NewSpot} {e : Error} → r ≡ Refused e → r ≡ spot_found d name full a.entries → remain e a ≡ where_new d name full a call
-  spot-refused {r} {e} k h = go (spot_found d name full a.entries) found-spot (sym k ∙ h)
+  pub spot-refused : {e : Error} → Err e ≡ spot_found d name full a.entries → remain e a ≡ where_new d name full a call
+  spot-refused {e} h = go (spot_found d name full a.entries) found-spot h
     where
-      go : (o : NewSpot) → FoundSpot d name full a call o → Refused e ≡ o → remain e a ≡ where_new d name full a call
-      go o (at-spot c i) z = let x : ◌≡◌ {A = ℕ} 0 1 = cc in absurd (omega arith)
+      go : (o : Result Spot Error) → FoundSpot d name full a call o → Err e ≡ o → remain e a ≡ where_new d name full a call
+      go o (at-spot c i) z = absurd cc
       go o (at_none x c) z = let q : e ≡ x = cc in rw q c
 
 module _ (d : ℕ) (name : List ℕ) (full : Bool) (a : Names) where
   -- the spot found is one
-  pub spot-found : {r : NewSpot} {s : Spot} → r ≡ At s → r ≡ spot_found d name full a.entries → IsSpot d name full a s
-  spot-found {r} {s} k h = go (spot_found d name full a.entries) (found-spot d name full a (remain NameExists a)) (sym k ∙ h)
+  pub spot-found : {s : Spot} → Ok s ≡ spot_found d name full a.entries → IsSpot d name full a s
+  spot-found {s} h = go (spot_found d name full a.entries) (found-spot d name full a (remain NameExists a)) h
     where
-      go : (o : NewSpot) → FoundSpot d name full a (remain NameExists a) o → At s ≡ o → IsSpot d name full a s
+      go : (o : Result Spot Error) → FoundSpot d name full a (remain NameExists a) o → Ok s ≡ o → IsSpot d name full a s
       go o (at-spot c i) z = let q : c ≡ s = cc in subst (IsSpot d name full a) q i
-      go o (at_none e c) z = let x : ◌≡◌ {A = ℕ} 0 1 = cc in absurd (omega arith)
+      go o (at_none e c) z = absurd cc
 
   -- and an allowed name can be entered there
   pub spot-enters : {s : Spot} → IsSpot d name full a s → name_allowed name ≡ true → length a.entries < a.entry_room → Enterable d name a

@@ -1,5 +1,6 @@
 -- The place of the next entry is that of the definition's: the one with the least index at or above the one asked for.
 -- Assumes nothing.
+use Rattle.std.specs.Prelude.{Result, Ok, Err}
 use mathlib.Core.Path.{◌≡◌, refl, sym, ap, ◌∙◌}
 use mathlib.Core.Bool.{Bool, true, false, false≢true}
 use mathlib.Core.List.{List, []}
@@ -10,7 +11,6 @@ use native.Mathlib.Omega.{arith}
 use native.Mathlib.Decide.{dec_lt}
 use lib.Dec.{eqb, ltb}
 use lib.ListN.{length}
-use denote.Enum.Declared.{tag_of}
 use borrow.Author.Tests.{eq-eqb, ne_eqb, lt-ltb, ltb-true, eqb-true}
 use Rattle.words.specs.Rules.{pick}
 use Rattle.words.specs.Tables.{lead, Asc}
@@ -18,13 +18,10 @@ use Rattle.words.proofs.Joined.{both_true}
 use Rattle.words.proofs.Order.{asc-map}
 use Rattle.words.proofs.Rules.{true-says, says-false, false-says, stop, go_on}
 use Rattle.words.proofs.Search.{asc-falls, find-found, find-missing, lead-ends}
-use Rattle.types.specs.declared.Answer.{Answer}
-use Rattle.types.specs.declared.Answer.TheVariants as answer
 use Rattle.types.specs.declared.Error.{Error}
 use Rattle.types.specs.declared.Error.TheVariants.{NoSuchEntry, NotDirectory}
 use Rattle.types.specs.declared.NodeRecord.{NodeRecord}
 use Rattle.types.specs.Nodes.{is_directory}
-use Rattle.types.specs.contracts.Answer as AnswerType
 use Rattle.volume.specs.Rows.{Entry, read_entry}
 use Rattle.volume.specs.Search.{PairBefore, entry_under}
 use Rattle.volume.specs.Volume.{Names}
@@ -35,8 +32,6 @@ use Rattle.tables.proofs.TableSearch.{entry-falls}
 use Rattle.names.specs.Entries.{from_index, entry_from, on_entry}
 use Rattle.names.specs.Listing.{Listed, listed, unlisted, on_directory, next_entry}
 use Rattle.names.proofs.EntryRuns.{says-from, under-out}
-use Rattle.directories.specs.declared.listing.NextPlace.{NextPlace}
-use Rattle.directories.specs.declared.listing.NextPlace.TheVariants as next
 use Rattle.directories.specs.Searches.{directory_there, entry_there, next_in, next_place}
 use Rattle.directories.proofs.EntrySearch.{directory-refused, directory-goes-on}
 
@@ -92,21 +87,21 @@ module _ (d from : ℕ) (es : List Entry) (asc : Asc entry_before es) where
 
 -- ---- the call, as code finds it
 
-module _ (d from : ℕ) (a : Names) {there : Answer} (h : there ≡ directory_there d a) where
-  pub next-refused : {e : Error} → there ≡ answer.Refused e → next.Refused e ≡ next_place d from a
+module _ (d from : ℕ) (a : Names) where
+  pub next-refused : {e : Error} → Err e ≡ directory_there d a → Err e ≡ next_place d from a
   unfolding next_place
-  next-refused k = directory-refused d a next.Refused _ h k
+  next-refused h = directory-refused d a Err _ h
 
-  pub next-goes-on : tag_of AnswerType.the_type there ≡ 0 → {p : ℕ} {x : NextPlace} → p ≡ lead (entry_under d from) a.entries → x ≡ next_in d a.entries p → x ≡ next_place d from a
+  pub next-goes-on : {u : Unit {0}} → Ok u ≡ directory_there d a → {p : ℕ} {x : Result ℕ Error} → p ≡ lead (entry_under d from) a.entries → x ≡ next_in d a.entries p → x ≡ next_place d from a
   unfolding next_place
-  next-goes-on t e q = directory-goes-on d a next.Refused _ h t (q ∙ ap (next_in d a.entries) e)
+  next-goes-on h e q = directory-goes-on d a Err _ h (q ∙ ap (next_in d a.entries) e)
 
 -- ---- the call
 
 -- a place that is found is that of the entry that is listed; a refusal is the definition's
-data Shows (es : List Entry) : NextPlace → Listed → Type 0 where
-  shows-entry : (p : ℕ) → p < length es → Shows es (next.At p) (listed (entry_at es p))
-  shows-refusal : (e : Error) → Shows es (next.Refused e) (unlisted e)
+data Shows (es : List Entry) : Result ℕ Error → Listed → Type 0 where
+  shows-entry : (p : ℕ) → p < length es → Shows es (Ok p) (listed (entry_at es p))
+  shows-refusal : (e : Error) → Shows es (Err e) (unlisted e)
 
 module _ (d from : ℕ) (a : Names) (named : Named a) where
   abbrev es : List Entry
@@ -115,13 +110,13 @@ module _ (d from : ℕ) (a : Names) (named : Named a) where
   abbrev first : ℕ
   first = lead (entry_under d from) es
 
-  in-directory : (b : Bool) → entry_there d es first ≡ b → Shows es (pick b (next.At first) (next.Refused NoSuchEntry)) (on_entry (unlisted NoSuchEntry) listed (entry_from d from es))
+  in-directory : (b : Bool) → entry_there d es first ≡ b → Shows es (pick b (Ok first) (Err NoSuchEntry)) (on_entry (unlisted NoSuchEntry) listed (entry_from d from es))
   unfolding on_entry pick
   in-directory true t = let h = from-there d from es named.entry_order t in rw h.1 (shows-entry first h.0)
   in-directory false t = rw (from-nowhere d from es named.entry_order t) (shows-refusal NoSuchEntry)
 
   of_row : (r : NodeRecord) (b : Bool) → is_directory r.kind ≡ b
-      → Shows es (pick b (next_in d es first) (next.Refused NotDirectory)) (pick b (on_entry (unlisted NoSuchEntry) listed (entry_from d from es)) (unlisted NotDirectory))
+      → Shows es (pick b (next_in d es first) (Err NotDirectory)) (pick b (on_entry (unlisted NoSuchEntry) listed (entry_from d from es)) (unlisted NotDirectory))
   unfolding pick next_in
   of_row r true e = in-directory (entry_there d es first) refl
   of_row r false e = shows-refusal NotDirectory
@@ -130,37 +125,37 @@ module _ (d from : ℕ) (a : Names) (named : Named a) where
   unfolding next_place next_entry on_directory
   next-shows = go (node d a)
     where
-      go : (o : Option NodeRecord) → Shows es (on_directory next.Refused (λ r. next_in d es first) o) (on_directory unlisted (λ r. on_entry (unlisted NoSuchEntry) listed (entry_from d from es)) o)
+      go : (o : Option NodeRecord) → Shows es (on_directory Err (λ r. next_in d es first) o) (on_directory unlisted (λ r. on_entry (unlisted NoSuchEntry) listed (entry_from d from es)) o)
       go none = shows-refusal NoSuchEntry
       go (some r) = of_row r (is_directory r.kind) refl
 
-  module _ {r : NextPlace} (h : r ≡ next_place d from a) where
-    pub next-listed : {p : ℕ} → r ≡ next.At p → (p < length es) × (listed (entry_at es p) ≡ next_entry d from a)
+  module _ {r : Result ℕ Error} (h : r ≡ next_place d from a) where
+    pub next-listed : {p : ℕ} → r ≡ Ok p → (p < length es) × (listed (entry_at es p) ≡ next_entry d from a)
     next-listed {p} k = go (next_place d from a) (next_entry d from a) next-shows (sym k ∙ h)
       where
-        go : (n : NextPlace) (l : Listed) → Shows es n l → next.At p ≡ n → (p < length es) × (listed (entry_at es p) ≡ l)
+        go : (n : Result ℕ Error) (l : Listed) → Shows es n l → Ok p ≡ n → (p < length es) × (listed (entry_at es p) ≡ l)
         go _ _ (shows-entry q b) e = let z : p ≡ q = cc in (rw z b, rw z)
-        go _ _ (shows-refusal x) e = let z : ◌≡◌ {A = ℕ} 0 1 = cc in absurd (omega arith)
+        go _ _ (shows-refusal x) e = absurd cc
 
-    pub next-first : {p : ℕ} → r ≡ next.At p → p ≡ first
+    pub next-first : {p : ℕ} → r ≡ Ok p → p ≡ first
     unfolding next_place on_directory
     next-first {p} k = go (node d a) (sym k ∙ h)
       where
-        in-there : (b : Bool) → next.At p ≡ pick b (next.At first) (next.Refused NoSuchEntry) → p ≡ first
+        in-there : (b : Bool) → Ok p ≡ pick b (Ok first) (Err NoSuchEntry) → p ≡ first
         in-there true e = unfold pick in cc
-        in-there false e = let z : ◌≡◌ {A = ℕ} 0 1 = unfold pick in cc in absurd (omega arith)
+        in-there false e = unfold pick in absurd cc
 
-        row : (b : Bool) → next.At p ≡ pick b (next_in d es first) (next.Refused NotDirectory) → p ≡ first
+        row : (b : Bool) → Ok p ≡ pick b (next_in d es first) (Err NotDirectory) → p ≡ first
         row true e = unfold pick next_in in in-there (entry_there d es first) e
-        row false e = let z : ◌≡◌ {A = ℕ} 0 1 = unfold pick in cc in absurd (omega arith)
+        row false e = unfold pick in absurd cc
 
-        go : (o : Option NodeRecord) → next.At p ≡ on_directory next.Refused (λ r. next_in d es first) o → p ≡ first
-        go none e = let z : ◌≡◌ {A = ℕ} 0 1 = cc in absurd (omega arith)
+        go : (o : Option NodeRecord) → Ok p ≡ on_directory Err (λ r. next_in d es first) o → p ≡ first
+        go none e = absurd cc
         go (some r) e = row (is_directory r.kind) e
 
-    pub next-unlisted : {e : Error} → r ≡ next.Refused e → unlisted e ≡ next_entry d from a
+    pub next-unlisted : {e : Error} → r ≡ Err e → unlisted e ≡ next_entry d from a
     next-unlisted {e} k = go (next_place d from a) (next_entry d from a) next-shows (sym k ∙ h)
       where
-        go : (n : NextPlace) (l : Listed) → Shows es n l → next.Refused e ≡ n → unlisted e ≡ l
-        go _ _ (shows-entry q b) z = let x : ◌≡◌ {A = ℕ} 0 1 = cc in absurd (omega arith)
+        go : (n : Result ℕ Error) (l : Listed) → Shows es n l → Err e ≡ n → unlisted e ≡ l
+        go _ _ (shows-entry q b) z = absurd cc
         go _ _ (shows-refusal x) z = let y : e ≡ x = cc in rw y

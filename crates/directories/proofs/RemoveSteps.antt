@@ -1,5 +1,6 @@
 -- A remove as code takes it: its refusals, which leave the volume as it was, and the two steps that take a node's chunks and its row out.
 -- Assumes nothing.
+use Rattle.std.specs.Prelude.{Some, None, Ok, Err}
 use mathlib.Core.Path.{◌≡◌, refl, sym, ap, ◌∙◌}
 use mathlib.Core.Bool.{true, false, not}
 use mathlib.Core.List.{List, []}
@@ -9,11 +10,9 @@ use native.Mathlib.Omega.{arith}
 use lib.Dec.{eqb}
 use lib.ListN.{length}
 use borrow.Author.Tests.{eq-eqb, ne_eqb, eqb-true, lt-ltb, le-ltb}
-use denote.Enum.Declared.{tag_of}
 use Rattle.words.specs.Tables.{lead, only, remove_at, Asc}
 use Rattle.words.proofs.Rules.{pick_true, pick-false}
 use Rattle.words.proofs.Order.{asc-map}
-use Rattle.types.specs.declared.Answer.TheVariants.{Done, Refused}
 use Rattle.types.specs.declared.Error.TheVariants.{NoSuchEntry, Busy}
 use Rattle.types.specs.declared.NodeRecord.{NodeRecord}
 use Rattle.volume.specs.declared.Layout.{Layout}
@@ -22,10 +21,7 @@ use Rattle.volume.specs.Volume.{shown, laid, with_nodes, on_names, on_store}
 use Rattle.volume.specs.Search.{chunk_under}
 use Rattle.volume.specs.Sound.{node, node_before, Good}
 use Rattle.volume.specs.Steps.{stays, becomes}
-use Rattle.tables.specs.Tables.{Ready, node_at, found_node}
-use Rattle.tables.specs.declared.Found.{Found}
-use Rattle.tables.specs.declared.Found.TheVariants as found
-use Rattle.tables.specs.contracts.Found.{the_type}
+use Rattle.tables.specs.Tables.{Ready, node_at, found_node, Found}
 use Rattle.tables.proofs.TableSearch.{node-found, node-absent}
 use Rattle.tables.proofs.NodeRows.{number_is}
 use Rattle.store.specs.Cut.{cut_from}
@@ -37,7 +33,7 @@ use Rattle.names.specs.Removing.{without_node, removed, remove_row, remove}
 use Rattle.words.proofs.Middle.{alone_at}
 
 -- the rows without a node, where a search found its row
-row-gone : (n p : ℕ) (rs : List NodeRecord) → Asc node_before rs → found.At p ≡ found_node n rs → only (λ r. not (eqb r.node n)) rs ≡ remove_at p rs
+row-gone : (n p : ℕ) (rs : List NodeRecord) → Asc node_before rs → Some p ≡ found_node n rs → only (λ r. not (eqb r.node n)) rs ≡ remove_at p rs
 row-gone n p rs order at =
     let f = node-found n rs p at in
     alone_at (λ r. eqb r.node n) (read_node []) rs p f.0 (eq-eqb (node_at rs p).node n (number_is n rs (node_at rs p) f.1))
@@ -51,26 +47,25 @@ module _ (n : ℕ) (l : List ℕ) (y : Layout) (ready : Ready l y) (g : Good (sh
   pub chunks-asked : {first : ℕ} → first ≤ length (shown l).store.chunks → Ready l y × Workable (shown l).store × (first ≤ length (shown l).store.chunks)
   chunks-asked b = (ready, st, b)
 
-  pub remove-missing : (r : Found) → tag_of the_type r ≡ 1 → r ≡ found_node n (shown l).names.nodes → Meets (Refused NoSuchEntry) l (remove n (shown l))
+  pub remove-missing : {r : Found} → r ≡ None → r ≡ found_node n (shown l).names.nodes → Meets (Err NoSuchEntry) l (remove n (shown l))
   unfolding remove remove_row node
-  remove-missing (found.At i) t h = absurd (omega arith)
-  remove-missing found.Nothing t h = meets (stays NoSuchEntry (shown l)) _ (sym ready.formed.same) (rw (node-absent n (shown l).names.nodes g.named.node_order h) refl)
+  remove-missing k h = meets (stays NoSuchEntry (shown l)) _ (sym ready.formed.same) (rw (node-absent n (shown l).names.nodes g.named.node_order (sym k ∙ h)) refl)
 
-  module _ {p : ℕ} {r : Found} (k : r ≡ found.At p) (h : r ≡ found_node n (shown l).names.nodes) where
+  module _ {p : ℕ} {r : Found} (k : r ≡ Some p) (h : r ≡ found_node n (shown l).names.nodes) where
     here : (p < length (shown l).names.nodes) × (node n (shown l).names ≡ some (node_at (shown l).names.nodes p))
     unfolding node
     here = node-found n (shown l).names.nodes p (sym k ∙ h)
 
     -- what `node_row` asks
-    pub row-asked : Ready l y × (p < length (shown l).names.nodes)
-    row-asked = (ready, here.0)
+    pub row-asked : p < length (shown l).names.nodes
+    row-asked = here.0
 
     module _ {d : NodeRecord} (q : d ≡ node_at (shown l).names.nodes p) where
       onward : remove_row n (shown l) (some d) ≡ remove n (shown l)
       unfolding remove
       onward = ap (remove_row n (shown l)) (ap (λ (s : NodeRecord). some s) q ∙ sym here.1)
 
-      pub remove-busy : 0 < d.links → Meets (Refused Busy) l (remove n (shown l))
+      pub remove-busy : 0 < d.links → Meets (Err Busy) l (remove n (shown l))
       unfolding remove_row
       remove-busy b = meets (stays Busy (shown l)) _ (sym ready.formed.same) (pick_true _ _ _ _ (lt-ltb 0 d.links b) refl ∙ onward)
 
@@ -83,7 +78,7 @@ module _ (n : ℕ) (l : List ℕ) (y : Layout) (ready : Ready l y) (g : Good (sh
           pub out-asked : Ready m y × (p < length (shown m).names.nodes)
           out-asked = (after.1, rw after.0 here.0)
 
-          pub remove-done : {o : List ℕ} → o ≡ laid (on_names (with_nodes (remove_at p (shown m).names.nodes)) (shown m)) → Meets (Done 0) o (remove n (shown l))
+          pub remove-done : {o : List ℕ} → o ≡ laid (on_names (with_nodes (remove_at p (shown m).names.nodes)) (shown m)) → Meets (Ok 0) o (remove n (shown l))
           unfolding remove_row without_node
           remove-done e =
               meets (becomes 0 (removed n (shown l))) _

@@ -1,5 +1,6 @@
 -- An entry taken out in three steps: its row, a link of its node, and its directory's size. From the bytes that the steps leave.
 -- Assumes nothing.
+use Rattle.std.specs.Prelude.{Some, None, IsSome}
 use mathlib.Core.Path.{◌≡◌, refl, sym, ap, ◌∙◌, subst}
 use mathlib.Core.Bool.{not}
 use mathlib.Core.List.{List, []}
@@ -8,7 +9,6 @@ use Prim.Native.Nat.{ℕ, ◌-◌, ◌≤◌, ◌<◌}
 use native.Mathlib.Omega.{arith}
 use lib.ListN.{length, set}
 use lib.Seq.{get_or-set_other}
-use denote.Enum.Declared.{tag_of}
 use Rattle.words.specs.Tables.{Asc, find, remove_at}
 use Rattle.words.proofs.Rules.{true-says}
 use Rattle.words.proofs.Order.{each_at}
@@ -23,10 +23,7 @@ use Rattle.volume.specs.Framed.{NodeFits, EntryFits, NamesFits}
 use Rattle.volume.specs.Sound.{node, node_before, DirectoryThere, NodeGood, Good}
 use Rattle.volume.specs.Steps.{changed, with_node}
 use Rattle.volume.proofs.Framed.{fits-nodes, fits-entries}
-use Rattle.tables.specs.Tables.{Ready, node_at, entry_at, found_node}
-use Rattle.tables.specs.declared.Found.{Found}
-use Rattle.tables.specs.declared.Found.TheVariants as found
-use Rattle.tables.specs.contracts.Found.{the_type}
+use Rattle.tables.specs.Tables.{Ready, node_at, entry_at, found_node, Found}
 use Rattle.tables.proofs.TableSearch.{found_at, node-found, node-absent}
 use Rattle.tables.proofs.NodeRows.{node-is, node-each}
 use Rattle.tables.proofs.ReadyVolume.{names-step}
@@ -59,18 +56,18 @@ module _ (l : List ℕ) (y : Layout) (ready : Ready l y) (g : Good (shown l)) (p
   parent-there = each_at (λ f. DirectoryThere (node f.parent a)) a.entries p (read_entry []) g.named.parents w.place
 
   -- its directory has a row
-  pub parent-found : {x : ℕ} → x ≡ e.parent → (r : Found) → tag_of the_type r ≡ 1 → r ≡ found_node x a.nodes → ⊥
+  pub parent-found : {x : ℕ} → x ≡ e.parent → (r : Found) → r ≡ found_node x a.nodes → IsSome r
   unfolding node
-  parent-found q (found.At i) k h = absurd (omega arith)
-  parent-found q found.Nothing k h = subst DirectoryThere (node-absent e.parent a.nodes g.named.node_order (rw q at h)) parent-there
+  parent-found q (Some i) h = refl
+  parent-found q None h = absurd (subst DirectoryThere (node-absent e.parent a.nodes g.named.node_order (rw q at h)) parent-there)
 
-  module _ {x above : ℕ} {r : Found} (q : x ≡ e.parent) (k : r ≡ found.At above) (h : r ≡ found_node x a.nodes) where
-    upper : found.At above ≡ found_node e.parent a.nodes
+  module _ {x above : ℕ} {r : Found} (q : x ≡ e.parent) (k : r ≡ Some above) (h : r ≡ found_node x a.nodes) where
+    upper : Some above ≡ found_node e.parent a.nodes
     upper = rw q at (sym k ∙ h)
 
     -- what `node_row` asks
-    pub holder-asked : Ready l y × (above < length a.nodes)
-    holder-asked = (ready, (node-found e.parent a.nodes above upper).0)
+    pub holder-asked : above < length a.nodes
+    holder-asked = (node-found e.parent a.nodes above upper).0
 
     module _ {d : NodeRecord} (s : d ≡ node_at a.nodes above) where
       holder : node e.parent a ≡ some d
@@ -144,7 +141,7 @@ module _ (l : List ℕ) (y : Layout) (ready : Ready l y) (g : Good (shown l)) (p
           above_same = ap (λ rs. node_at rs above) (changed-set e.node fewer_links a.nodes t.place g.named.node_order w.found) ∙ get_or-set_other a.nodes t.place above _ (read_node []) apart ∙ sym s
 
           above_in : above < length (changed e.node fewer_links a.nodes)
-          above_in = rw (length-changed e.node fewer_links a.nodes) holder-asked.1
+          above_in = rw (length-changed e.node fewer_links a.nodes) holder-asked
 
           order : Asc node_before (changed e.node fewer_links a.nodes)
           order = order-kept e.node fewer_links (λ r. refl) a.nodes g.named.node_order

@@ -1,27 +1,22 @@
 -- Inner: a search among a directory's entries as code takes it: the first by halving, the others followed.
 -- Assumes nothing.
-use Rattle.std.specs.Prelude.{ℕ, ◌+◌, Bool, not, List, eqb, ltb, length, drop}
+use Rattle.std.specs.Prelude.{ℕ, ◌+◌, Bool, not, List, eqb, ltb, length, drop, Result, Some, None, Ok, Err}
 use Rattle.words.specs.Rules.{pick, both, same}
 use Rattle.words.specs.Tables.{lead}
 use Rattle.types.specs.declared.Error.TheVariants.{NoSuchEntry}
-use Rattle.types.specs.declared.Answer.{Answer}
-use Rattle.types.specs.declared.Answer.TheVariants.{Done, Refused}
 use Rattle.volume.specs.Rows.{Entry}
 use Rattle.volume.specs.Search.{entry_under}
 use Rattle.volume.specs.Volume.{Names}
 use Rattle.volume.specs.Sound.{node}
-use Rattle.tables.specs.Tables.{entry_at}
-use Rattle.tables.specs.declared.Found.{Found}
-use Rattle.tables.specs.declared.Found.TheVariants as found
+use Rattle.tables.specs.Tables.{entry_at, Found}
 use Rattle.names.specs.Listing.{on_directory}
 use Rattle.directories.specs.declared.searching.Searched.{Searched}
 use Rattle.directories.specs.declared.searching.Searched.TheVariants.{At, Absent, Stopped}
-use Rattle.directories.specs.declared.listing.NextPlace.{NextPlace}
-use Rattle.directories.specs.declared.listing.NextPlace.TheVariants as next
+use Rattle.types.specs.declared.Error.{Error}
 
 -- a node is there and is a directory: nothing to tell, or why not
-unfoldable pub directory_there : ℕ → Names → Answer
-directory_there d a = on_directory Refused (λ r. Done 0) (node d a)
+unfoldable pub directory_there : ℕ → Names → Result (Unit {0}) Error
+directory_there d a = on_directory Err (λ r. Ok tt) (node d a)
 
 -- an entry of the directory that has another name
 abbrev pub other_name : ℕ → List ℕ → Entry → Bool
@@ -43,15 +38,15 @@ searched d name from most es = searched_from d es (lead (entry_under d from) es)
 
 -- the place of the entry that has a name
 unfoldable pub found_from : ℕ → List Entry → ℕ → Found
-found_from d es p = pick (entry_there d es p) (found.At p) found.Nothing
+found_from d es p = pick (entry_there d es p) (Some p) None
 
 unfoldable pub entry_found : ℕ → List ℕ → List Entry → Found
 entry_found d name es = found_from d es (lead (entry_under d 0) es + lead (other_name d name) (drop (lead (entry_under d 0) es) es))
 
 -- ---- the place of the next entry
 
-unfoldable pub next_in : ℕ → List Entry → ℕ → NextPlace
-next_in d es p = pick (entry_there d es p) (next.At p) (next.Refused NoSuchEntry)
+unfoldable pub next_in : ℕ → List Entry → ℕ → Result ℕ Error
+next_in d es p = pick (entry_there d es p) (Ok p) (Err NoSuchEntry)
 
-unfoldable pub next_place : ℕ → ℕ → Names → NextPlace
-next_place d from a = on_directory next.Refused (λ r. next_in d a.entries (lead (entry_under d from) a.entries)) (node d a)
+unfoldable pub next_place : ℕ → ℕ → Names → Result ℕ Error
+next_place d from a = on_directory Err (λ r. next_in d a.entries (lead (entry_under d from) a.entries)) (node d a)

@@ -12,10 +12,10 @@ ghost use Rattle.directories.specs.Spots.{parent_found, IsParent, past_indexes, 
 ghost use Rattle.names.specs.Enterable.{Enterable};
 
 use crate::searching::find_entry;
-use files::{FileRow, RowAt};
-use tables::Found;
-use types::{Answer, Error, FileType, Limit, NodeRecord};
-use volume::{Kind, Layout};
+use files::RowAt;
+use tables::Tables;
+use types::{Error, FileType, NodeRecord};
+use volume::Layout;
 
 // An index above that of every entry: a search for it finds the place behind a directory's last one.
 const PAST_INDEXES: u64 = 4_294_967_296;
@@ -23,15 +23,8 @@ const PAST_INDEXES: u64 = 4_294_967_296;
 // u32::MAX: a directory that has an entry of this index takes no further one.
 const MOST_INDEX: u64 = 4_294_967_295;
 
-// u64::MAX: where the next node is this one, no further one is made.
-const MOST_NODE: u64 = 18_446_744_073_709_551_615;
-
-// The row of a directory that a name may be put into, or why not.
-#[derive(Clone, Copy)]
-enum ParentRow {
-    At(RowAt),
-    Refused(Error),
-}
+// Where the next node is this one, no further one is made.
+const MOST_NODE: u64 = u64::MAX;
 
 // Where a new entry goes, and its index.
 #[derive(Clone, Copy)]
@@ -40,67 +33,58 @@ struct Spot {
     index: u64,
 }
 
-// A spot for an entry of a new name, or why there is none.
-#[derive(Clone, Copy)]
-enum NewSpot {
-    At(Spot),
-    Refused(Error),
-}
-
 // The row of a directory that has a link, for a name that is allowed.
-fn find_parent(volume: &[u8], layout: Layout, parent: u64, name: &[u8]) -> ParentRow
-    requires { Ready volume.now layout × Asc node_before (shown volume.now).names.nodes }
-    ensures { result ≡ parent_found parent name.now (shown volume.now).names.nodes }
+fn find_parent(tables: &Tables, parent: u64, name: &[u8]) -> Result<RowAt, Error>
+    requires { Asc node_before tables.now.names.nodes }
+    ensures { result ≡ parent_found parent name.now tables.now.names.nodes }
 {
-    let Found::At(place) = tables::find_node(volume, layout, parent) else {
-        return ParentRow::Refused(Error::NoSuchEntry);
-    };
-    let row = tables::node_row(volume, layout, place);
+    let place = tables.find_node(parent).ok_or(Error::NoSuchEntry)?;
+    let row = tables.node_row(place);
     if row.links == 0 {
-        return ParentRow::Refused(Error::NoSuchEntry);
+        return Err(Error::NoSuchEntry);
     }
-    let kind = row.kind;
-    if !types::is_directory(kind) {
-        return ParentRow::Refused(Error::NotDirectory);
+    if !row.kind.is_directory() {
+        return Err(Error::NotDirectory);
     }
     if !paths::name_allowed(name) {
-        return ParentRow::Refused(Error::BadName);
+        return Err(Error::BadName);
     }
-    ParentRow::At(RowAt { place, row })
+    Ok(RowAt { place, row })
 }
 
 // The greatest index of a directory, whose last entry stands just before the place; 0 if it has none.
-fn greatest_index(volume: &[u8], layout: Layout, directory: u64, behind: usize) -> u64
-    requires { Ready volume.now layout × Asc entry_before (shown volume.now).names.entries × (behind ≡ lead (entry_under directory past_indexes) (shown volume.now).names.entries) }
-    ensures { (result ≡ greatest directory (shown volume.now).names.entries) × (result ≤ most_index) }
+fn greatest_index(tables: &Tables, directory: u64, behind: usize) -> u64
+    requires { Asc entry_before tables.now.names.entries × (behind ≡ lead (entry_under directory past_indexes) tables.now.names.entries) }
+    ensures { (result ≡ greatest directory tables.now.names.entries) × (result ≤ most_index) }
 {
-    if behind == 0 {
-        return 0;
+    // A volume that is laid out has no index above 2^32 - 1.
+    let _ = &tables.layout;
+    match behind.checked_sub(1) {
+        None => 0,
+        Some(last) if tables.entry_parent(last) == directory => tables.entry_index(last),
+        Some(_) => 0,
     }
-    let last = behind - 1;
-    if tables::entry_parent(volume, layout, last) != directory {
-        return 0;
-    }
-    tables::entry_index(volume, layout, last)
 }
 
 // The spot of a new entry, if its name is new, there is room for it, and an index is left.
-fn find_spot(volume: &[u8], layout: Layout, directory: u64, name: &[u8], full: bool) -> NewSpot
-    requires { Ready volume.now layout × Asc entry_before (shown volume.now).names.entries }
-    ensures { result ≡ spot_found directory name.now full (shown volume.now).names.entries }
+fn find_spot(tables: &Tables, directory: u64, name: &[u8], full: bool) -> Result<Spot, Error>
+    requires { Asc entry_before tables.now.names.entries }
+    ensures { result ≡ spot_found directory name.now full tables.now.names.entries }
 {
-    let Found::Nothing = find_entry(volume, layout, directory, name) else {
-        return NewSpot::Refused(Error::NameExists);
-    };
+    // A volume that is laid out has no index above 2^32 - 1.
+    let _ = &tables.layout;
+    if find_entry(tables, directory, name).is_some() {
+        return Err(Error::NameExists);
+    }
     if full {
-        return NewSpot::Refused(Error::NoRowRoom);
+        return Err(Error::NoRowRoom);
     }
-    let place = tables::first_entry(volume, layout, directory, PAST_INDEXES);
-    let index = greatest_index(volume, layout, directory, place);
+    let place = tables.first_entry(directory, PAST_INDEXES);
+    let index = greatest_index(tables, directory, place);
     if index == MOST_INDEX {
-        return NewSpot::Refused(Error::NoIndexLeft);
+        return Err(Error::NoIndexLeft);
     }
-    NewSpot::At(Spot {
+    Ok(Spot {
         place,
         index: index + 1,
     })
@@ -124,30 +108,27 @@ fn add_entry(
         volume,
         layout,
         directory.place,
-        tables::with_size(row, row.size + 1),
+        NodeRecord {
+            size: row.size + 1,
+            ..row
+        },
     );
 }
 
 // Whether the entry table is full.
-fn entries_full(volume: &[u8], layout: Layout) -> bool
-    requires { Ready volume.now layout }
-    ensures { result ≡ leb (shown volume.now).names.entry_room (length (shown volume.now).names.entries) }
+fn entries_full(tables: &Tables) -> bool
+    ensures { result ≡ leb tables.now.names.entry_room (length tables.now.names.entries) }
 {
-    tables::entry_room(volume, layout) <= tables::entries_used(volume, layout)
+    tables.entry_room() <= tables.entries_used()
 }
 
 // Whether a table that a new node needs is full, or no number is left for one.
-fn nodes_full(volume: &[u8], layout: Layout) -> bool
-    requires { Ready volume.now layout }
-    ensures { result ≡ no_row_room (shown volume.now).names }
+fn nodes_full(tables: &Tables) -> bool
+    ensures { result ≡ no_row_room tables.now.names }
 {
-    if tables::node_room(volume, layout) <= tables::nodes_used(volume, layout) {
-        return true;
-    }
-    if entries_full(volume, layout) {
-        return true;
-    }
-    tables::next_node(volume, layout) == MOST_NODE
+    tables.node_room() <= tables.nodes_used()
+        || entries_full(tables)
+        || tables.next_node() == MOST_NODE
 }
 
 // A node without a limit and without bytes, named once.
@@ -157,61 +138,67 @@ fn new_node(node: u64, kind: FileType) -> NodeRecord
     NodeRecord {
         node,
         kind,
-        limit: Limit::Unlimited,
+        limit: None,
         links: 1,
         size: 0,
     }
 }
 
 // Makes a node of a type, and names it in a directory.
-pub fn create(volume: &mut [u8], layout: Layout, parent: u64, name: &[u8], kind: u8) -> Answer
+pub fn create(
+    volume: &mut [u8],
+    layout: Layout,
+    parent: u64,
+    name: &[u8],
+    kind: u8,
+) -> Result<u64, Error>
     requires { Ready volume.old layout × Good (shown volume.old) }
     ensures { (result ≡ (name_step (create parent name.now kind) (shown volume.old)).answer) × (volume.new ≡ laid (name_step (create parent name.now kind) (shown volume.old)).after) }
 {
-    let directory = match find_parent(volume, layout, parent, name) {
-        ParentRow::At(directory) => directory,
-        ParentRow::Refused(error) => return Answer::Refused(error),
+    let tables = Tables {
+        bytes: volume,
+        layout,
     };
-    let Kind::Known(file_type) = volume::kind_of(kind) else {
-        return Answer::Refused(Error::InvalidArgument);
-    };
-    let full = nodes_full(volume, layout);
-    let spot = match find_spot(volume, layout, parent, name, full) {
-        NewSpot::At(spot) => spot,
-        NewSpot::Refused(error) => return Answer::Refused(error),
-    };
-    let node = tables::next_node(volume, layout);
+    let directory = find_parent(&tables, parent, name)?;
+    let file_type = FileType::try_from(kind)?;
+    let full = nodes_full(&tables);
+    let spot = find_spot(&tables, parent, name, full)?;
+    let node = tables.next_node();
     add_entry(volume, layout, directory, spot, node, name);
     tables::append_node(volume, layout, new_node(node, file_type));
     tables::set_next_node(volume, layout, node + 1);
-    Answer::Done(node)
+    Ok(node)
 }
 
 // Names a file in a directory once more.
-pub fn link(volume: &mut [u8], layout: Layout, parent: u64, name: &[u8], target: u64) -> Answer
+pub fn link(
+    volume: &mut [u8],
+    layout: Layout,
+    parent: u64,
+    name: &[u8],
+    target: u64,
+) -> Result<u64, Error>
     requires { Ready volume.old layout × Good (shown volume.old) }
     ensures { (result ≡ (name_step (link parent name.now target) (shown volume.old)).answer) × (volume.new ≡ laid (name_step (link parent name.now target) (shown volume.old)).after) }
 {
-    let directory = match find_parent(volume, layout, parent, name) {
-        ParentRow::At(directory) => directory,
-        ParentRow::Refused(error) => return Answer::Refused(error),
+    let tables = Tables {
+        bytes: volume,
+        layout,
     };
-    let file = match files::find_file(volume, layout, target) {
-        FileRow::At(file) => file,
-        FileRow::Refused(error) => return Answer::Refused(error),
-    };
-    let full = entries_full(volume, layout);
-    let spot = match find_spot(volume, layout, parent, name, full) {
-        NewSpot::At(spot) => spot,
-        NewSpot::Refused(error) => return Answer::Refused(error),
-    };
+    let directory = find_parent(&tables, parent, name)?;
+    let file = files::find_file(&tables, target)?;
+    let full = entries_full(&tables);
+    let spot = find_spot(&tables, parent, name, full)?;
     add_entry(volume, layout, directory, spot, target, name);
     let row = file.row;
     tables::change_node(
         volume,
         layout,
         file.place,
-        tables::with_links(row, row.links + 1),
+        NodeRecord {
+            links: row.links + 1,
+            ..row
+        },
     );
-    Answer::Done(0)
+    Ok(0)
 }

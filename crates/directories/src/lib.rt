@@ -10,7 +10,7 @@ mod unlinking;
 
 pub use entering::{create, link};
 pub use finding::find_node;
-pub use listing::{NextPlace, next_place};
+pub use listing::next_place;
 pub use removing::remove;
 pub use searching::search;
 pub use unlinking::unlink;

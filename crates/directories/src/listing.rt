@@ -1,61 +1,41 @@
 // The entries of a directory one by one, in index order.
 ghost use Rattle.std.specs.Prelude.{◌≡◌};
 ghost use Rattle.words.specs.Tables.{Asc};
-ghost use Rattle.volume.specs.Volume.{shown};
 ghost use Rattle.volume.specs.Sound.{node_before, entry_before};
-ghost use Rattle.tables.specs.Tables.{Ready};
 ghost use Rattle.directories.specs.Searches.{directory_there, entry_there, next_place};
 
-use tables::Found;
-use types::{Answer, Error};
-use volume::Layout;
-
-// The place of the next entry, or why there is none.
-#[derive(Clone, Copy)]
-pub enum NextPlace {
-    At(usize),
-    Refused(Error),
-}
+use tables::Tables;
+use types::Error;
 
 // Whether a node is there and is a directory: nothing to tell, or why not.
-pub fn directory_there(volume: &[u8], layout: Layout, directory: u64) -> Answer
-    requires { Ready volume.now layout × Asc node_before (shown volume.now).names.nodes }
-    ensures { result ≡ directory_there directory (shown volume.now).names }
+pub fn directory_there(tables: &Tables, directory: u64) -> Result<(), Error>
+    requires { Asc node_before tables.now.names.nodes }
+    ensures { result ≡ directory_there directory tables.now.names }
 {
-    let Found::At(found) = tables::find_node(volume, layout, directory) else {
-        return Answer::Refused(Error::NoSuchEntry);
-    };
-    let row = tables::node_row(volume, layout, found);
-    let kind = row.kind;
-    if !types::is_directory(kind) {
-        return Answer::Refused(Error::NotDirectory);
+    let place = tables.find_node(directory).ok_or(Error::NoSuchEntry)?;
+    let row = tables.node_row(place);
+    if !row.kind.is_directory() {
+        return Err(Error::NotDirectory);
     }
-    Answer::Done(0)
+    Ok(())
 }
 
 // Whether there is an entry at a place, and it is the directory's.
-pub fn entry_there(volume: &[u8], layout: Layout, directory: u64, place: usize) -> bool
-    requires { Ready volume.now layout }
-    ensures { result ≡ entry_there directory (shown volume.now).names.entries place }
+pub fn entry_there(tables: &Tables, directory: u64, place: usize) -> bool
+    ensures { result ≡ entry_there directory tables.now.names.entries place }
 {
-    if tables::entries_used(volume, layout) <= place {
-        return false;
-    }
-    tables::entry_parent(volume, layout, place) == directory
+    place < tables.entries_used() && tables.entry_parent(place) == directory
 }
 
 // The place of a directory's first entry at or above an index.
-pub fn next_place(volume: &[u8], layout: Layout, directory: u64, from: u64) -> NextPlace
-    requires { Ready volume.now layout × Asc node_before (shown volume.now).names.nodes × Asc entry_before (shown volume.now).names.entries }
-    ensures { result ≡ next_place directory from (shown volume.now).names }
+pub fn next_place(tables: &Tables, directory: u64, from: u64) -> Result<usize, Error>
+    requires { Asc node_before tables.now.names.nodes × Asc entry_before tables.now.names.entries }
+    ensures { result ≡ next_place directory from tables.now.names }
 {
-    let there = directory_there(volume, layout, directory);
-    if let Answer::Refused(error) = there {
-        return NextPlace::Refused(error);
+    directory_there(tables, directory)?;
+    let place = tables.first_entry(directory, from);
+    if !entry_there(tables, directory, place) {
+        return Err(Error::NoSuchEntry);
     }
-    let place = tables::first_entry(volume, layout, directory, from);
-    if !entry_there(volume, layout, directory, place) {
-        return NextPlace::Refused(Error::NoSuchEntry);
-    }
-    NextPlace::At(place)
+    Ok(place)
 }

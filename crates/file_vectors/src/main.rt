@@ -1,12 +1,13 @@
 // Replays runs of file calls from the standard input, each on a volume that the text lays out, and prints what each call answers.
-// oracle/README.md tells what each line means. Of a call's numbers, place is an offset, a size or a limit; length the bytes to read or write, or 1
-// where there is to be a limit.
+// oracle/README.md tells what each line means. Of a call's numbers, place is an offset, a size or a limit; length the bytes to read or
+// write, or 1 where there is to be a limit.
 #![tactic(auto)]
 
-ghost use Rattle.std.specs.Prelude.{◌≡◌, true, ◌+◌, ◌≤◌, min, length};
+ghost use Rattle.std.specs.Prelude.{◌≤◌, ◌<◌, length, IsSome};
 
-use types::{Answer, Limit};
-use vectors::{Call, STDIN_FILENO, STDOUT_FILENO};
+use std::io;
+use types::{Error, WORD};
+use vectors::{BUFFER, Call, MEMORY, Numbers};
 
 // What a line starts with. Any other number ends the text.
 const VOLUME: u64 = 1;
@@ -24,109 +25,110 @@ const FIRST_SIZE: usize = 728;
 
 const NODES: u64 = 8;
 
-fn main() {
-    let mut text = vectors::blank();
-    let n = io::read_full(STDIN_FILENO, &mut text);
-    let mut memory = vectors::blank_memory();
-    let mut buffer = vectors::blank_buffer();
-    replay(&text[..n], &mut memory, &mut buffer);
+// Which call a line is.
+#[derive(Clone, Copy)]
+enum Kind {
+    Read,
+    Write,
+    Resize,
+    SetLimit,
 }
 
-fn replay(text: &[u8], memory: &mut [u8], buffer: &mut [u8]) {
-    let mut at = 0;
-    while at < text.len() {
-        at = run(text, at, memory, buffer);
+fn main(rt: HostRuntime) -> io::Result<()> {
+    let text = vectors::read_text(&rt)?;
+    let mut memory = vec![in rt.alloc(); 0; MEMORY]?;
+    let mut buffer = vec![in rt.alloc(); 0; BUFFER]?;
+    replay(&rt, &mut Numbers::new(&text), &mut memory, &mut buffer)
+}
+
+// The runs up to a line that begins none, each with a volume that is lent as many bytes as it has.
+fn replay(
+    rt: &impl Print,
+    numbers: &mut Numbers<'_>,
+    memory: &mut [u8],
+    buffer: &mut [u8],
+) -> io::Result<()> {
+    while numbers.number() == VOLUME {
+        let length = numbers.number() as usize;
+        let Some(volume) = memory.get_mut(..length) else {
+            return println!(rt; "outside");
+        };
+        replay_run(rt, numbers, volume, buffer)?;
     }
+    Ok(())
 }
 
-// The run at index at: a volume, lent as many bytes as it has, and its calls. Any other line ends the text.
-fn run(text: &[u8], at: usize, memory: &mut [u8], buffer: &mut [u8]) -> usize
-    ensures { (min (at + 1) (length text.now) ≤ result) × (result ≤ length text.now) }
+// A run from its words on, up to the next line that is no call.
+fn replay_run(
+    rt: &impl Print,
+    numbers: &mut Numbers<'_>,
+    volume: &mut [u8],
+    buffer: &mut [u8],
+) -> io::Result<()>
+    ensures { length numbers.new ≤ length numbers.old }
 {
-    let first = vectors::number(text, at);
-    if first.value != VOLUME {
-        return text.len();
+    volume.fill(0);
+    vectors::lay_runs(numbers, volume);
+    println!(rt; "volume")?;
+    while let Some((kind, call)) = read_call(numbers) {
+        match buffer.get_mut(..call.length as usize) {
+            Some(buffer) => carry_out(rt, volume, kind, call, buffer)?,
+            None => println!(rt; "outside")?,
+        }
     }
-    let length = vectors::number(text, first.next);
-    let n = length.value as usize;
-    if memory.len() < n {
-        io::write_all(STDOUT_FILENO, b"outside\n");
-        return text.len();
-    }
-    calls(text, length.next, &mut memory[..n], buffer)
+    Ok(())
 }
 
-// The run from its words on, up to the next line that is no call.
-fn calls(text: &[u8], at: usize, volume: &mut [u8], buffer: &mut [u8]) -> usize
-    requires { at ≤ length text.now }
-    ensures { (at ≤ result) × (result ≤ length text.now) }
+// The next call, if the next line is one.
+fn read_call(numbers: &mut Numbers<'_>) -> Option<(Kind, Call)>
+    ensures within { length numbers.new ≤ length numbers.old }
+    ensures shorter { IsSome result → length numbers.new < length numbers.old }
 {
-    words::clear(volume, 0, volume.len());
-    let mut next = vectors::lay_runs(text, at, volume);
-    io::write_all(STDOUT_FILENO, b"volume\n");
-    while has_call(text, next) {
-        next = replay_call(text, next, volume, buffer);
-    }
-    next
+    let kind = kind_of(numbers.peek())?;
+    Some((kind, Call::read(numbers)))
 }
 
-fn has_call(text: &[u8], at: usize) -> bool
-    ensures { result ≡ true → at + 1 ≤ length text.now }
+fn kind_of(name: u64) -> Option<Kind>
+    ensures { IsSome result → 0 < name }
 {
-    if text.len() <= at {
-        return false;
-    }
-    let first = vectors::number(text, at);
-    let name = first.value;
     match name {
-        READ | WRITE | RESIZE | SET_LIMIT => true,
-        _ => false,
+        READ => Some(Kind::Read),
+        WRITE => Some(Kind::Write),
+        RESIZE => Some(Kind::Resize),
+        SET_LIMIT => Some(Kind::SetLimit),
+        _ => None,
     }
-}
-
-// The call at index at. Answers where the next one starts.
-fn replay_call(text: &[u8], at: usize, volume: &mut [u8], buffer: &mut [u8]) -> usize
-    requires { at + 1 ≤ length text.now }
-    ensures { (at + 1 ≤ result) × (result ≤ length text.now) }
-{
-    let call = vectors::read_call(text, at);
-    let n = call.length as usize;
-    if buffer.len() < n {
-        io::write_all(STDOUT_FILENO, b"outside\n");
-        return call.next;
-    }
-    carry_out(volume, call, &mut buffer[..n]);
-    call.next
 }
 
 // The buffer is filled before a read too, so that its sum shows what the read leaves.
-fn carry_out(volume: &mut [u8], call: Call, buffer: &mut [u8]) {
+fn carry_out(
+    rt: &impl Print,
+    volume: &mut [u8],
+    kind: Kind,
+    call: Call,
+    buffer: &mut [u8],
+) -> io::Result<()> {
     vectors::fill(buffer, call.seed);
-    let answer = ask(volume, call, buffer);
-    print_answer(answer);
-    io::print_decimal(STDOUT_FILENO, size_of(volume, call.node));
-    if call.name == READ {
-        io::write_all(STDOUT_FILENO, b" ");
-        io::print_decimal(STDOUT_FILENO, vectors::checksum(buffer));
+    let answer = ask(volume, kind, call, buffer);
+    let size = size_of(volume, call.node);
+    print!(rt; "{} {} {size}", types::number(answer), types::value(answer))?;
+    if matches!(kind, Kind::Read) {
+        print!(rt; " {}", vectors::checksum(buffer))?;
     }
-    io::write_all(STDOUT_FILENO, b"\n");
+    println!(rt; "")
 }
 
-fn ask(volume: &mut [u8], call: Call, buffer: &mut [u8]) -> Answer {
-    let name = call.name;
-    match name {
-        READ => lentilraft::read(volume, call.node, call.place, buffer),
-        WRITE => lentilraft::write(volume, call.node, call.place, buffer),
-        RESIZE => lentilraft::resize_file(volume, call.node, call.place),
-        _ => lentilraft::set_limit(volume, call.node, limit_of(call)),
+fn ask(volume: &mut [u8], kind: Kind, call: Call, buffer: &mut [u8]) -> Result<u64, Error> {
+    match kind {
+        Kind::Read => lentilraft::read(volume, call.node, call.place, buffer),
+        Kind::Write => lentilraft::write(volume, call.node, call.place, buffer),
+        Kind::Resize => lentilraft::resize_file(volume, call.node, call.place),
+        Kind::SetLimit => lentilraft::set_limit(volume, call.node, limit_of(call)),
     }
 }
 
-fn limit_of(call: Call) -> Limit {
-    if call.length == 0 {
-        return Limit::Unlimited;
-    }
-    Limit::AtMost(call.place)
+fn limit_of(call: Call) -> Option<u64> {
+    (call.length != 0).then_some(call.place)
 }
 
 // The size in the node's row, or 0 for a node beyond the rows.
@@ -135,15 +137,8 @@ fn size_of(volume: &[u8], node: u64) -> u64 {
         return 0;
     }
     let at = FIRST_SIZE + volume::NODE_ROW * (node as usize);
-    if volume.len() < at + types::WORD {
-        return 0;
+    match volume.get(at..at + WORD) {
+        Some(size) => words::get::<8>(size, 0),
+        None => 0,
     }
-    words::get64(volume, at)
-}
-
-fn print_answer(answer: Answer) {
-    io::print_decimal(STDOUT_FILENO, types::number(answer) as u64);
-    io::write_all(STDOUT_FILENO, b" ");
-    io::print_decimal(STDOUT_FILENO, types::value(answer));
-    io::write_all(STDOUT_FILENO, b" ");
 }

@@ -1,5 +1,6 @@
 -- The scope's boundary rows P1 to P7, of the calls' definitions on a volume, in every volume that they can start from.
 -- Assumes nothing.
+use Rattle.std.specs.Prelude.{Ok, Err}
 use mathlib.Core.Path.{◌≡◌, refl, sym, ap, ◌∙◌, subst}
 use mathlib.Core.Bool.{false}
 use mathlib.Core.List.{List, [], ◌∷◌}
@@ -17,7 +18,6 @@ use Rattle.words.proofs.Written.{over-at}
 use Rattle.types.specs.Sizes.{most_size}
 use Rattle.types.specs.Outcomes.{done}
 use Rattle.types.specs.Nodes.{is_directory, file_limit}
-use Rattle.types.specs.declared.Answer.TheVariants.{Done, Refused}
 use Rattle.types.specs.declared.Error.TheVariants.{FileTooLarge}
 use Rattle.types.specs.declared.FileType.TheVariants.{RegularFile}
 use Rattle.types.specs.declared.NodeRecord.{NodeRecord}
@@ -197,10 +197,10 @@ module _ (n : ℕ) (r : NodeRecord) (v : Volume) (s : Start n r v) where
     two_size = omega (arith, three, s.empty)
 
     -- write 3 bytes at 16,383, first in the volume: pointers 0 and 16,384, size 16,386
-    pub p1 : ((write n 16383 bs v).answer ≡ Done 3) × ((write n 16383 bs v).after.store.chunks ≡ row n 0 0 ∷ row n 1 16384 ∷ []) × (node n (write n 16383 bs v).after.names ≡ some (sized 16386 r))
+    pub p1 : ((write n 16383 bs v).answer ≡ Ok 3) × ((write n 16383 bs v).after.store.chunks ≡ row n 0 0 ∷ row n 1 16384 ∷ []) × (node n (write n 16383 bs v).after.names ≡ some (sized 16386 r))
     p1 =
         rw writes-two (
-          ap Done three,
+          ap Ok three,
           ap (λ (t : Store). t.chunks) two-written,
           node-here n (sized (written_size 16383 bs r)) (λ a. refl) r v.names s.there ∙ ap (λ (k : ℕ). some (sized k r)) two_size,
         )
@@ -215,7 +215,7 @@ module _ (n : ℕ) (r : NodeRecord) (v : Volume) (s : Start n r v) where
     long = let k : Fits (full filled) = subst Fits its-full (write_kept n 16383 bs v s.fits s.good).0 in omega (arith, k.store.long)
 
     -- then resize to 16,383: free word 16 is 16,384
-    pub p2 : ((resize n 16383 (write n 16383 bs v).after).answer ≡ Done 0) × (free (resize n 16383 (write n 16383 bs v).after).after.store.allocator ≡ 16384 ∷ [])
+    pub p2 : ((resize n 16383 (write n 16383 bs v).after).answer ≡ Ok 0) × (free (resize n 16383 (write n 16383 bs v).after).after.store.allocator ≡ 16384 ∷ [])
     p2 = rw (its-full, cuts filled) (refl, word-free filled)
 
     -- back to 16,386, read there: 0 0 0
@@ -223,7 +223,7 @@ module _ (n : ℕ) (r : NodeRecord) (v : Volume) (s : Start n r v) where
     p3 = rw (its-full, cuts filled, grows-again filled) (reads filled long)
 
     -- after the write, empty write at u64::MAX: 0, size kept (16,386)
-    pub p4 : ((write n 18446744073709551615 [] (write n 16383 bs v).after).answer ≡ Done 0) × ((write n 18446744073709551615 [] (write n 16383 bs v).after).after ≡ (write n 16383 bs v).after)
+    pub p4 : ((write n 18446744073709551615 [] (write n 16383 bs v).after).answer ≡ Ok 0) × ((write n 18446744073709551615 [] (write n 16383 bs v).after).after ≡ (write n 16383 bs v).after)
         × (node n (write n 18446744073709551615 [] (write n 16383 bs v).after).after.names ≡ some (sized 16386 r))
     p4 =
         let there : node n (write n 16383 bs v).after.names ≡ some (sized 16386 r) = p1.2 in
@@ -233,7 +233,7 @@ module _ (n : ℕ) (r : NodeRecord) (v : Volume) (s : Start n r v) where
 
   module _ (bs : List ℕ) (one : length bs ≡ 1) where
     -- one byte at 2^40: 5
-    pub p5 : ((write n (2 ^ 40) bs v).answer ≡ Refused FileTooLarge) × ((write n (2 ^ 40) bs v).after ≡ v)
+    pub p5 : ((write n (2 ^ 40) bs v).answer ≡ Err FileTooLarge) × ((write n (2 ^ 40) bs v).after ≡ v)
     unfolding write write_file on_file on_row pick
     p5 = rw (s.there, s.file, s.unlimited, one) (refl, refl)
 
@@ -248,10 +248,10 @@ module _ (n : ℕ) (r : NodeRecord) (v : Volume) (s : Start n r v) where
     one-hole = rw one (parted (λ t. holes n 1099511627775 1 t ≡ 1) refl)
 
     -- at 2^40 - 1: index 67,108,863
-    pub p6 : ((write n 1099511627775 bs v).answer ≡ Done 1) × ((write n 1099511627775 bs v).after.store.chunks ≡ row n 67108863 0 ∷ [])
+    pub p6 : ((write n 1099511627775 bs v).answer ≡ Ok 1) × ((write n 1099511627775 bs v).after.store.chunks ≡ row n 67108863 0 ∷ [])
     p6 =
         rw (writes n r v s.there s.file 1099511627775 bs (λ e. omega (arith, one)) (omega (arith, one, limit)) (omega (arith, one-hole, two-left)))
-        (ap Done one, ap (λ (t : Store). t.chunks) one_written)
+        (ap Ok one, ap (λ (t : Store). t.chunks) one_written)
 
   -- ---- grown, then cut
 
@@ -266,7 +266,7 @@ module _ (n : ℕ) (r : NodeRecord) (v : Volume) (s : Start n r v) where
   none-taken = parted (λ t. (shrunk n 20000 t).chunks ≡ []) refl
 
   -- empty file to 40,000, then 20,000: no row
-  pub p7 : ((resize n 20000 (resize n 40000 v).after).answer ≡ Done 0) × ((resize n 20000 (resize n 40000 v).after).after.store.chunks ≡ [])
+  pub p7 : ((resize n 20000 (resize n 40000 v).after).answer ≡ Ok 0) × ((resize n 20000 (resize n 40000 v).after).after.store.chunks ≡ [])
   p7 =
       let e : resize n 40000 v ≡ becomes 0 grown = resize-grows n 40000 v r (resizes n r v s.there s.file 40000 (omega (arith, limit))) (omega (arith, s.empty)) in
       let k : resize n 20000 grown ≡ becomes 0 (reshaped n 20000 (shrunk n 20000 v.store) grown) = resize-cuts n 20000 grown (sized 40000 r) (resizes n (sized 40000 r) grown grown-row s.file 20000 (omega (arith, limit))) (omega arith) in

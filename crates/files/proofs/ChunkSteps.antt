@@ -30,7 +30,7 @@ use Rattle.files.specs.Gap.{closed, Gapped}
 use Rattle.files.proofs.Gap.{length_without, row-behind, test-behind}
 
 module _ {l : List ℕ} {y : Layout} {p g : ℕ} (q : Gapped l y p g) (st : Workable (closed p g l).store) (n offset : ℕ) (bs : List ℕ) (k : ℕ) (at : p ≡ lead (chunk_under n k) (closed p g l).store.chunks)
-    (t : Touched (shown l).store.allocator.chunk_size offset (length bs) k) {s from start count : ℕ} (size : IsSpan l s) (cut : PieceLies s offset (length bs) k from start count) where
+    (t : Touched (shown l).store.allocator.chunk_size offset (length bs) k) {s from start count : ℕ} (size : IsSpan (shown l).store s) (cut : PieceLies s offset (length bs) k from start count) where
   abbrev w : Store
   w = (closed p g l).store
 
@@ -50,13 +50,12 @@ module _ {l : List ℕ} {y : Layout} {p g : ℕ} (q : Gapped l y p g) (st : Work
       its-row = sym (row-behind p g cs q.inside)
 
       -- what `keep_chunk` asks
-      pub keep-asked : Gapped l y p g × (p + g < length cs) × ((chunk_at cs (p + g)).pointer + (shown l).store.allocator.chunk_size ≤ length (shown l).store.bytes) × (from + length lent ≤ (shown l).store.allocator.chunk_size) × IsSpan l s
+      pub keep-asked : Gapped l y p g × (p + g < length cs) × ((chunk_at cs (p + g)).pointer + (shown l).store.allocator.chunk_size ≤ length (shown l).store.bytes) × (from + length lent ≤ (shown l).store.allocator.chunk_size)
       keep-asked = (
         q,
         omega (arith, (row-yes n k w.chunks st.stored.order at (sym hit ∙ e)).0, length_without p g cs q.inside, q.inside),
         its-inside w st n offset bs k p at t size cut hit e its-row,
         piece-room w st n offset bs k p at t size cut,
-        size,
       )
 
       pub chunk_kept : {m : List ℕ} → Gapped m y (p + 1) g × (closed (p + 1) g m ≡ on_store (with_bytes (over (shown l).store.bytes ((chunk_at cs (p + g)).pointer + from) lent)) (closed p g l))
@@ -69,7 +68,7 @@ module _ {l : List ℕ} {y : Layout} {p g : ℕ} (q : Gapped l y p g) (st : Work
       its-hole = row-missing w st n offset bs k p at t size cut hit e
 
       -- what `take_chunk` asks
-      pub take-asked : hole (chunk n k w.chunks) ≤ g → Gapped l y p g × Workable w × (1 ≤ g) × (p ≡ lead (chunk_under n k) w.chunks) × (chunk n k w.chunks ≡ none) × (1 ≤ room w) × (from + length lent ≤ (shown l).store.allocator.chunk_size) × IsSpan l s
+      pub take-asked : hole (chunk n k w.chunks) ≤ g → Gapped l y p g × Workable w × (1 ≤ g) × (p ≡ lead (chunk_under n k) w.chunks) × (chunk n k w.chunks ≡ none) × (1 ≤ room w) × (from + length lent ≤ (shown l).store.allocator.chunk_size) × IsSpan (shown l).store s
       take-asked left = (q, st, rw its-hole at left, at, its-hole, room-there w st n offset bs k p at t size cut hit e enough, piece-room w st n offset bs k p at t size cut, size)
 
       pub chunk-taken : {m : List ℕ} {r : ℕ} → (r ≡ g - 1) × Gapped m y (p + 1) r × (closed (p + 1) r m ≡ on_store (with_bytes (over (taken n k w).bytes ((allocate (shown l).store.allocator).pointer + from) lent)) (on_store (taken n k) (closed p g l)))

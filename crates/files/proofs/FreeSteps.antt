@@ -73,8 +73,8 @@ module _ (l : List ℕ) (y : Layout) (r : Ready l y) (first n : ℕ) (inside : f
             ∙ release-last (pointers l first i) (chunk_at (shown l).store.chunks (first + i)).pointer (shown l).store.allocator)
 
 -- all of them
-pub all-freed : (l : List ℕ) (first n i : ℕ) {m : List ℕ} → m ≡ laid (freed_to l first i) → i ≤ n → n ≤ i → m ≡ laid (freed_to l first n)
-all-freed l first n i e a b = let q : i ≡ n = omega arith in e ∙ ap (λ (k : ℕ). laid (freed_to l first k)) q
+pub all-freed : (l : List ℕ) (first n i : ℕ) {m : List ℕ} → m ≡ laid (freed_to l first i) → i ≡ n → m ≡ laid (freed_to l first n)
+all-freed l first n i e q = e ∙ ap (λ (k : ℕ). laid (freed_to l first k)) q
 
 -- ---- a cut: the rows of a node from a place on, their chunks freed, the rows taken out
 

@@ -37,6 +37,10 @@ module _ {l : List ℕ} {y : Layout} {p g : ℕ} (q : Gapped l y p g) (there : p
   abbrev Done : List ℕ → Type 0
   Done m = Gapped m y (p + 1) g × (closed (p + 1) g m ≡ on_store (with_bytes (over v.store.bytes (row.pointer + at) bs)) (closed p g l))
 
+  -- what `put_piece` asks
+  pub put-asked : {c : ChunkRow} → c ≡ row → Ready l y × (c.pointer + at + length bs ≤ length v.store.bytes)
+  put-asked e = (q.ready, rw e (omega arith))
+
   fits₁ : StoreFits v₁.store
   fits₁ = fits-bytes v.store q.ready.formed.fits.store v₁.store.bytes (length_over v.store.bytes (row.pointer + at) bs (omega arith))
 

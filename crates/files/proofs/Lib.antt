@@ -1,3 +1,4 @@
+pub mod Leading
 pub mod FileRows
 pub mod ReadGives
 pub mod ReadPieces

@@ -1,5 +1,6 @@
 -- What set limit does: its refusals, which leave the volume as it was, and the row that it changes.
 -- Assumes nothing.
+use Rattle.std.specs.Prelude.{Ok, Err}
 use mathlib.Core.Path.{◌≡◌, refl, sym, ap, ◌∙◌}
 use mathlib.Core.Bool.{Bool, true, false}
 use mathlib.Core.List.{List}
@@ -15,12 +16,11 @@ use Rattle.words.proofs.Rules.{says-ltb, pick_true, pick-false}
 use Rattle.words.proofs.Order.{each_map}
 use Rattle.types.specs.Sizes.{most_size}
 use Rattle.types.specs.Nodes.{limit_word, file_limit}
-use Rattle.types.specs.declared.Answer.{Answer}
-use Rattle.types.specs.declared.Answer.TheVariants.{Done, Refused}
+use Rattle.types.specs.Answers.{Answer}
 use Rattle.types.specs.declared.Error.{Error}
 use Rattle.types.specs.declared.Error.TheVariants.{InvalidArgument, FileTooLarge}
 use Rattle.types.specs.declared.FileType.TheVariants.{Directory}
-use Rattle.types.specs.declared.Limit.{Limit}
+use Rattle.types.specs.Nodes.{Limit}
 use Rattle.types.specs.declared.NodeRecord.{NodeRecord}
 use Rattle.volume.specs.declared.ChunkRow.{ChunkRow}
 use Rattle.volume.specs.Framed.{Fits}
@@ -33,8 +33,6 @@ use Rattle.tables.proofs.ChangedNames.{Stands, look-changed, named-changed, fits
 use Rattle.tables.proofs.Files.{OnFile, stops, goes_on, on-file}
 use Rattle.store.specs.Content.{byte_at}
 use Rattle.files.specs.declared.files.RowAt.{RowAt}
-use Rattle.files.specs.declared.files.FileRow.{FileRow}
-use Rattle.files.specs.declared.files.FileRow.TheVariants as row
 use Rattle.files.specs.FileRows.{file_found}
 use Rattle.files.specs.Limits.{limit_file, set_limit}
 use Rattle.files.proofs.FileRows.{IsFile, file-found, file-goes-on, file-refused}
@@ -52,31 +50,31 @@ module _ (n : ℕ) (m : Limit) (l : List ℕ) (w : laid (shown l) ≡ l) (a : As
   abbrev refuse : Error → Step
   refuse e = stays e (shown l)
 
-  pub limit-refused : {r : FileRow} {e : Error} → r ≡ row.Refused e → r ≡ file_found n (shown l).names.nodes → Meets (Refused e) l (set_limit n m (shown l))
+  pub limit-refused : {e : Error} → Err e ≡ file_found n (shown l).names.nodes → Meets (Err e) l (set_limit n m (shown l))
   unfolding set_limit
-  limit-refused {r} {e} k h = meets (refuse e) _ (sym w) (file-refused refuse (limit_file m (shown l)) n (shown l).names a k h)
+  limit-refused {e} h = meets (refuse e) _ (sym w) (file-refused refuse (limit_file m (shown l)) n (shown l).names a refl h)
 
-  module _ {r : FileRow} {f : RowAt} (k : r ≡ row.At f) (h : r ≡ file_found n (shown l).names.nodes) {x : ℕ} (p : x ≡ limit_word m) where
+  module _ {f : RowAt} (h : Ok f ≡ file_found n (shown l).names.nodes) {x : ℕ} (p : x ≡ limit_word m) where
     its : IsFile n (shown l).names f
-    its = file-found n (shown l).names k h
+    its = file-found n (shown l).names refl h
 
     onward : limit_file m (shown l) f.row ≡ set_limit n m (shown l)
     unfolding set_limit
-    onward = file-goes-on n (shown l).names k h refuse (limit_file m (shown l))
+    onward = file-goes-on n (shown l).names refl h refuse (limit_file m (shown l))
 
-    pub limit-above : most_size < x → Meets (Refused InvalidArgument) l (set_limit n m (shown l))
+    pub limit-above : most_size < x → Meets (Err InvalidArgument) l (set_limit n m (shown l))
     unfolding limit_file
     limit-above e = meets (refuse InvalidArgument) _ (sym w) (pick_true _ _ _ _ (rw (← p) (lt-ltb _ _ e)) refl ∙ onward)
 
     module _ (s : x ≤ most_size) {z : ℕ} (o : z ≡ file_limit m) where
-      pub limit-below : z < f.row.size → Meets (Refused FileTooLarge) l (set_limit n m (shown l))
+      pub limit-below : z < f.row.size → Meets (Err FileTooLarge) l (set_limit n m (shown l))
       unfolding limit_file
       limit-below e = meets (refuse FileTooLarge) _ (sym w) (pick-false _ _ _ _ (rw (← p) (le-ltb _ _ s)) (pick_true _ _ _ _ (rw (← o) (lt-ltb _ _ e)) refl) ∙ onward)
 
-      pub limit-done : f.row.size ≤ z → {d : NodeRecord} → d ≡ limited m f.row → {y : List ℕ} → y ≡ laid (on_names (with_nodes (set (shown l).names.nodes f.place d)) (shown l)) → Meets (Done 0) y (set_limit n m (shown l))
+      pub limit-done : f.row.size ≤ z → {y : List ℕ} → y ≡ laid (on_names (with_nodes (set (shown l).names.nodes f.place (limited m f.row))) (shown l)) → Meets (Ok 0) y (set_limit n m (shown l))
       unfolding limit_file
-      limit-done e {d} c {y} g =
-          let same : y ≡ laid (on_names (with_node f.row.node (limited m)) (shown l)) = rw its.number (row-set n (limited m) (shown l).names.nodes f.place a its.found (c ∙ ap (limited m) its.here) (shown l) refl l refl g) in
+      limit-done e {y} g =
+          let same : y ≡ laid (on_names (with_node f.row.node (limited m)) (shown l)) = rw its.number (row-set n (limited m) (shown l).names.nodes f.place a its.found (ap (limited m) its.here) (shown l) refl l refl g) in
           meets (becomes 0 (on_names (with_node f.row.node (limited m)) (shown l))) _ same
           (pick-false _ _ _ _ (rw (← p) (le-ltb _ _ s)) (pick-false _ _ _ _ (rw (← o) (le-ltb _ _ e)) refl) ∙ onward)
 
@@ -112,8 +110,8 @@ limit-kept n m v f g = limit-cases (λ s. Fits s.after × Good s.after) n m v (�
         (record { names = fits-changed n (limited m) keeps r v.names e t g.named (λ _. most) f.names; store = f.store }, record { named = named-changed n (limited m) keeps r v.names e t g.named; stored = g.stored; owned = owned })
 
 -- a refusal leaves the volume as it was
-pub limit-leaves : (n : ℕ) (m : Limit) (v : Volume) (e : Error) → (set_limit n m v).answer ≡ Refused e → (set_limit n m v).after ≡ v
-limit-leaves n m v e = limit-cases (λ s. s.answer ≡ Refused e → s.after ≡ v) n m v (λ d q. refl) (λ r d file most size q. let x : ◌≡◌ {A = ℕ} 0 1 = cc in absurd (omega arith))
+pub limit-leaves : (n : ℕ) (m : Limit) (v : Volume) (e : Error) → (set_limit n m v).answer ≡ Err e → (set_limit n m v).after ≡ v
+limit-leaves n m v e = limit-cases (λ s. s.answer ≡ Err e → s.after ≡ v) n m v (λ d q. refl) (λ r d file most size q. absurd cc)
 
 -- every file's bytes are as they were
 pub limit-content : (n : ℕ) (m : Limit) (v : Volume) (k j : ℕ) → byte_at (set_limit n m v).after.store k j ≡ byte_at v.store k j

@@ -1,12 +1,12 @@
 -- An accepted write does what POSIX.1 says of the gap before the bytes written, and of a write of no bytes.
 -- Assumes nothing.
+use Rattle.std.specs.Prelude.{Ok}
 use mathlib.Core.Path.{◌≡◌, sym, ◌∙◌}
 use mathlib.Core.List.{List}
 use mathlib.Core.Option.{some}
 use Prim.Native.Nat.{ℕ, ◌<◌}
 use native.Mathlib.Omega.{arith}
 use lib.ListN.{length}
-use Rattle.types.specs.declared.Answer.TheVariants.{Done}
 use Rattle.types.specs.declared.NodeRecord.{NodeRecord}
 use Rattle.volume.specs.Volume.{Volume}
 use Rattle.volume.specs.Framed.{Fits}
@@ -19,7 +19,7 @@ use Rattle.store.proofs.OwnedContent.{zero-above}
 use Rattle.files.proofs.WriteKept.{write-shows, write-empty}
 
 -- r is the row of the file before a write that gives k, s its row after
-module _ (n offset : ℕ) (bs : List ℕ) (v : Volume) (k : ℕ) (accepted : (write n offset bs v).answer ≡ Done k) (r s : NodeRecord) (before : node n v.names ≡ some r) (after : node n (write n offset bs v).after.names ≡ some s) where
+module _ (n offset : ℕ) (bs : List ℕ) (v : Volume) (k : ℕ) (accepted : (write n offset bs v).answer ≡ Ok k) (r s : NodeRecord) (before : node n v.names ≡ some r) (after : node n (write n offset bs v).after.names ≡ some s) where
   pub gap-reads-zero : Fits v → Good v → 0 < length bs → GapReadsZero (file_of r v.store) offset (file_of s (write n offset bs v).after.store)
   gap-reads-zero f g h j low high =
       let w = (write-shows n offset bs v f g h k accepted).1 in

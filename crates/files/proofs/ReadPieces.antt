@@ -8,23 +8,19 @@ use Prim.Native.Nat.{ℕ, ◌+◌, ◌-◌, ◌/◌, ◌%◌, min, ◌≤◌, �
 use native.Mathlib.Nat.{mod-lt, add-zero}
 use native.Mathlib.Omega.{arith}
 use lib.Dec.{ltb}
-use lib.ListN.{length, take, drop}
-use lib.Seq.{drop-drop}
-use Rattle.words.specs.Bytes.{part, over, zeros, word}
+use lib.ListN.{length, take, drop, replicate}
+use Rattle.words.specs.Bytes.{part, over, zeros}
 use Rattle.words.specs.Rules.{both}
 use Rattle.words.specs.Tables.{lead}
-use Rattle.words.proofs.Parts.{length_part, length-zeros, length_over, over-nil, two, lent_at}
+use Rattle.words.proofs.Parts.{length_over, over-nil, two, lent_at}
 use Rattle.words.proofs.Multiples.{next-chunk}
 use Rattle.words.proofs.Rules.{call-no, call-yes}
 use Rattle.words.proofs.Written.{over-all, length-lent}
-use Rattle.volume.specs.Header.{at_chunk_room, at_entry_room, at_node_room}
-use Rattle.volume.specs.declared.Layout.{Layout}
 use Rattle.volume.specs.declared.ChunkRow.{ChunkRow}
-use Rattle.volume.specs.Volume.{Store, shown, at_bytes}
+use Rattle.volume.specs.Volume.{Store}
 use Rattle.volume.specs.Search.{chunk_under}
-use Rattle.tables.specs.Tables.{Ready, chunk_at}
+use Rattle.tables.specs.Tables.{chunk_at}
 use Rattle.tables.specs.OneRow.{is_chunk, chunk}
-use Rattle.tables.proofs.ReadyVolume.{rooms, area-long}
 use Rattle.store.specs.Content.{bytes_from}
 use Rattle.store.proofs.Content.{length_from, from-none, from-add, from_row, from-hole}
 use Rattle.tables.proofs.ChunkCursor.{row-yes, row-no}
@@ -32,24 +28,13 @@ use Rattle.store.specs.Workable.{Workable}
 use Rattle.tables.proofs.StoredRows.{row_inside}
 use Rattle.files.specs.FileRows.{IsSpan}
 
--- a part of the chunk area is a part of the volume
-pub area-part : (l : List ℕ) (y : Layout) → Ready l y → (at n : ℕ) → part l (y.area + at) n ≡ part (shown l).store.bytes at n
-unfolding part shown
-area-part l y r at n = rw ((rooms l y r).area, drop-drop at (at_bytes (word l at_node_room) (word l at_entry_room) (word l at_chunk_room)) l)
-
--- and so it is when it is lent
-pub area-lent : (l : List ℕ) (y : Layout) → Ready l y → (at n : ℕ) → take (y.area + at + n - (y.area + at)) (drop (y.area + at) l) ≡ part (shown l).store.bytes at n
-area-lent l y r at n =
-    let w : y.area + at + n - (y.area + at) ≡ n = omega arith in
-    rw w (unfold part in area-part l y r at n)
-
-module _ (l : List ℕ) (y : Layout) (r : Ready l y) (st : Workable (shown l).store) (n j p : ℕ) (e : p ≡ lead (chunk_under n (j / (shown l).store.allocator.chunk_size)) (shown l).store.chunks) {s : ℕ}
-    (size : IsSpan l s) {b : Bool} (hit : b ≡ both (ltb p (length (shown l).store.chunks)) (is_chunk n (j / s) (chunk_at (shown l).store.chunks p))) where
+module _ (v : Store) (st : Workable v) (n j p : ℕ) (e : p ≡ lead (chunk_under n (j / v.allocator.chunk_size)) v.chunks) {s : ℕ}
+    (size : IsSpan v s) {b : Bool} (hit : b ≡ both (ltb p (length v.chunks)) (is_chunk n (j / s) (chunk_at v.chunks p))) where
   abbrev S : ℕ
-  S = (shown l).store.allocator.chunk_size
+  S = v.allocator.chunk_size
 
   abbrev cs : List ChunkRow
-  cs = (shown l).store.chunks
+  cs = v.chunks
 
   pos : 0 < S
   pos = omega (arith, size.0, size.1)
@@ -58,11 +43,11 @@ module _ (l : List ℕ) (y : Layout) (r : Ready l y) (st : Workable (shown l).st
   hit-there = rw size.0 at hit
 
   -- no row: zeros, and the place stays
-  pub hole-read : not b ≡ true → (out : List ℕ) → length out ≤ S - j % S → {m : List ℕ} → m ≡ over out 0 (zeros (length out))
-      → (m ≡ bytes_from (shown l).store n j (length out)) × (p ≡ lead (chunk_under n (j / S + 1)) cs)
+  pub hole-read : not b ≡ true → (out : List ℕ) → length out ≤ S - j % S → {m : List ℕ} → m ≡ replicate (length out) 0
+      → (m ≡ bytes_from v n j (length out)) × (p ≡ lead (chunk_under n (j / S + 1)) cs)
   hole-read miss out short em =
       let h = row-no n (j / S) cs st.stored.order e (call-no hit-there miss) in
-      (em ∙ over-all out (zeros (length out)) (sym (length-zeros (length out))) ∙ sym (from-hole (shown l).store n j (length out) pos short h.0), h.1)
+      (em ∙ unfold zeros in sym (from-hole v n j (length out) pos short h.0), h.1)
 
   module _ (found : not b ≡ false) where
     its-row : (p < length cs) × ((chunk n (j / S) cs ≡ some (chunk_at cs p)) × (p + 1 ≡ lead (chunk_under n (j / S + 1)) cs))
@@ -72,22 +57,20 @@ module _ (l : List ℕ) (y : Layout) (r : Ready l y) (st : Workable (shown l).st
     row-there = its-row.0
 
     module _ {c : ChunkRow} (row : c ≡ chunk_at cs p) (out : List ℕ) (short : length out ≤ S - j % S) where
-      there : c.pointer + j % S + length out ≤ length (shown l).store.bytes
-      there = rw row (omega (arith, row_inside (shown l).store st.stored st.size p row-there, mod-lt j pos))
+      there : c.pointer + j % S + length out ≤ length v.bytes
+      there = rw row (omega (arith, row_inside v st.stored st.size p row-there, mod-lt j pos))
 
-      -- where the bytes end in the volume
-      pub row_ends : y.area + (c.pointer + j % s) + length out ≤ length l
-      row_ends = rw size.0 (omega (arith, there, area-long l y r, rooms l y r))
+      -- where the bytes end in the chunk area
+      pub row_ends : c.pointer + j % s + length out ≤ length v.bytes
+      row_ends = rw size.0 there
 
-      pub row_read : {m : List ℕ} → m ≡ over out 0 (take (y.area + (c.pointer + j % s) + length out - (y.area + (c.pointer + j % s))) (drop (y.area + (c.pointer + j % s)) l))
-          → (m ≡ bytes_from (shown l).store n j (length out)) × (p + 1 ≡ lead (chunk_under n (j / S + 1)) cs)
-      row_read {m} em =
-          let q : m ≡ over out 0 (part (shown l).store.bytes (c.pointer + j % S) (length out)) =
-          em ∙ ap (over out 0) (area-lent l y r (c.pointer + j % s) (length out) ∙ ap (λ (k : ℕ). part (shown l).store.bytes (c.pointer + j % k) (length out)) size.0) in (
-            q ∙ over-all out (part (shown l).store.bytes (c.pointer + j % S) (length out)) (sym (length_part (shown l).store.bytes (c.pointer + j % S) (length out) there))
-                ∙ sym (from_row (shown l).store n j (length out) pos short c (its-row.1.0 ∙ ap some (sym row)) there),
-            its-row.1.1,
-          )
+      pub row_read : {o m : List ℕ} → o ≡ v.bytes → m ≡ take (c.pointer + j % s + length out - (c.pointer + j % s)) (drop (c.pointer + j % s) o)
+          → (m ≡ bytes_from v n j (length out)) × (p + 1 ≡ lead (chunk_under n (j / S + 1)) cs)
+      unfolding part
+      row_read {o} {m} area em =
+          let w : c.pointer + j % s + length out - (c.pointer + j % s) ≡ length out = omega arith in
+          let q : m ≡ part v.bytes (c.pointer + j % S) (length out) = em ∙ rw (w, size.0, area) refl in
+          (q ∙ sym (from_row v n j (length out) pos short c (its-row.1.0 ∙ ap some (sym row)) there), its-row.1.1)
 
 -- ---- piece after piece
 

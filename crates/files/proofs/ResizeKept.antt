@@ -1,6 +1,7 @@
 -- What a resize leaves: after a refusal the volume as it was; after an accepted one a good volume that fits, in which the file has the new
 -- size, its bytes below it and zeros from there on, and all else is as before.
 -- Assumes nothing.
+use Rattle.std.specs.Prelude.{Ok, Err}
 use mathlib.Core.Path.{◌≡◌, refl, sym, ap, ◌∙◌}
 use mathlib.Core.Bool.{Bool, true, false}
 use mathlib.Core.Option.{some}
@@ -12,7 +13,6 @@ use Rattle.words.specs.Rules.{pick, Says, holds, fails}
 use Rattle.words.proofs.Rules.{says-ltb, false-says, pick_true, pick-false}
 use Rattle.types.specs.Nodes.{file_limit}
 use Rattle.types.specs.Answers.{value}
-use Rattle.types.specs.declared.Answer.TheVariants.{Done, Refused}
 use Rattle.types.specs.declared.Error.{Error}
 use Rattle.types.specs.declared.Error.TheVariants.{FileTooLarge}
 use Rattle.types.specs.declared.FileType.TheVariants.{Directory}
@@ -144,21 +144,21 @@ resize-kept n z v f g =
     (λ r a h. shape-kept n z v f g r a (shrunk n z v.store) (cut-shape n z v f g r a))
 
 -- an accepted resize gives 0, and shows the file of its new size
-pub resize-shows : (n z : ℕ) (v : Volume) → Fits v → Good v → (k : ℕ) → (resize n z v).answer ≡ Done k → (k ≡ 0) × Resized n z v (resize n z v).after
+pub resize-shows : (n z : ℕ) (v : Volume) → Fits v → Good v → (k : ℕ) → (resize n z v).answer ≡ Ok k → (k ≡ 0) × Resized n z v (resize n z v).after
 resize-shows n z v f g k =
-    resize-cases (λ s. s.answer ≡ Done k → (k ≡ 0) × Resized n z v s.after) n z v (λ e q. let x : ◌≡◌ {A = ℕ} 0 1 = cc in absurd (omega arith))
+    resize-cases (λ s. s.answer ≡ Ok k → (k ≡ 0) × Resized n z v s.after) n z v (λ e q. absurd cc)
     (λ r a h q. (sym (ap value q), shape-shows n z v f g r a v.store (same_shape n z v f g r a h) (λ j b. refl)))
     (λ r a h q. (sym (ap value q), shape-shows n z v f g r a (shrunk n z v.store) (cut-shape n z v f g r a) (shrunk-low n z v.store (stored-workable v.store f.store g.stored))))
 
 -- a refusal leaves the volume as it was
-pub resize-refused : (n z : ℕ) (v : Volume) (e : Error) → (resize n z v).answer ≡ Refused e → (resize n z v).after ≡ v
+pub resize-refused : (n z : ℕ) (v : Volume) (e : Error) → (resize n z v).answer ≡ Err e → (resize n z v).after ≡ v
 resize-refused n z v e =
-    resize-cases (λ s. s.answer ≡ Refused e → s.after ≡ v) n z v (λ d q. refl) (λ r a h q. let x : ◌≡◌ {A = ℕ} 0 1 = cc in absurd (omega arith)) (λ r a h q. let x : ◌≡◌ {A = ℕ} 0 1 = cc in absurd (omega arith))
+    resize-cases (λ s. s.answer ≡ Err e → s.after ≡ v) n z v (λ d q. refl) (λ r a h q. absurd cc) (λ r a h q. absurd cc)
 
 -- ---- what POSIX.1 says of a file extended
 
 -- r is the row of the file before a resize that gives k, s its row after
-module _ (n z : ℕ) (v : Volume) (k : ℕ) (accepted : (resize n z v).answer ≡ Done k) (r s : NodeRecord) (before : node n v.names ≡ some r) (after : node n (resize n z v).after.names ≡ some s) where
+module _ (n z : ℕ) (v : Volume) (k : ℕ) (accepted : (resize n z v).answer ≡ Ok k) (r s : NodeRecord) (before : node n v.names ≡ some r) (after : node n (resize n z v).after.names ≡ some s) where
   pub extension-shows-zero : Fits v → Good v → ExtensionShowsZero (file_of r v.store) z (file_of s (resize n z v).after.store)
   extension-shows-zero f g longer =
       let w = (resize-shows n z v f g k accepted).1 in

@@ -1,5 +1,6 @@
 -- A resize: the cut and the zeros behind it, its refusals, which leave the volume as it was, and the size that it sets.
 -- Assumes nothing.
+use Rattle.std.specs.Prelude.{Ok, Err}
 use mathlib.Core.Path.{◌≡◌, refl, sym, ap, ◌∙◌}
 use mathlib.Core.List.{List}
 use Prim.Native.Nat.{ℕ, ◌/◌, ◌≤◌, ◌<◌}
@@ -8,10 +9,8 @@ use borrow.Author.Tests.{lt-ltb, le-ltb}
 use Rattle.words.specs.Tables.{lead}
 use Rattle.words.proofs.Rules.{pick_true, pick-false}
 use Rattle.types.specs.Nodes.{file_limit}
-use Rattle.types.specs.declared.Answer.TheVariants.{Done, Refused}
 use Rattle.types.specs.declared.Error.{Error}
 use Rattle.types.specs.declared.Error.TheVariants.{FileTooLarge}
-use Rattle.types.specs.declared.NodeRecord.{NodeRecord}
 use Rattle.volume.specs.declared.Layout.{Layout}
 use Rattle.volume.specs.Search.{chunk_under}
 use Rattle.volume.proofs.Rounding.{div-up}
@@ -22,8 +21,6 @@ use Rattle.volume.specs.Steps.{Step, stays, becomes, with_node}
 use Rattle.tables.specs.Tables.{Ready, node_at}
 use Rattle.tables.specs.OneRow.{sized}
 use Rattle.files.specs.declared.files.RowAt.{RowAt}
-use Rattle.files.specs.declared.files.FileRow.{FileRow}
-use Rattle.files.specs.declared.files.FileRow.TheVariants as row
 use Rattle.files.specs.FileRows.{IsSpan, file_found}
 use Rattle.tables.proofs.ReadyVolume.{store_step}
 use Rattle.store.specs.Cut.{cut_from, tail_zeroed, shrunk}
@@ -46,12 +43,12 @@ module _ (l : List ℕ) (y : Layout) (r : Ready l y) (g : Good (shown l)) (n z :
   abbrev up : ℕ
   up = round_up (shown l).store.allocator.chunk_size z
 
-  module _ {s tail : ℕ} (size : IsSpan l s) (place : tail ≡ lead (chunk_under n (z / s)) (shown l).store.chunks) {m : List ℕ} (cut : m ≡ laid (on_store (cut_from n up) (shown l))) where
+  module _ {s tail : ℕ} (size : IsSpan (shown l).store s) (place : tail ≡ lead (chunk_under n (z / s)) (shown l).store.chunks) {m : List ℕ} (cut : m ≡ laid (on_store (cut_from n up) (shown l))) where
     after : (shown m ≡ on_store (cut_from n up) (shown l)) × Ready m y
     after = cut_step l y r st n up cut
 
     -- what `zero_tail` asks: the place of the tail is as it was
-    pub zero-asked : Ready m y × Workable (shown m).store × (tail ≡ lead (chunk_under n (z / s)) (shown m).store.chunks) × IsSpan m s
+    pub zero-asked : Ready m y × Workable (shown m).store × (tail ≡ lead (chunk_under n (z / s)) (shown m).store.chunks) × IsSpan (shown m).store s
     zero-asked =
         let low : z / s ≤ up = rw size.0 (div-up (shown l).store.allocator.chunk_size z st.size) in (
           after.1,
@@ -78,35 +75,35 @@ module _ (n z : ℕ) (l : List ℕ) (y : Layout) (ready : Ready l y) (g : Good (
   abbrev refuse : Error → Step
   refuse e = stays e (shown l)
 
-  pub resize-refused : {r : FileRow} {e : Error} → r ≡ row.Refused e → r ≡ file_found n (shown l).names.nodes → Meets (Refused e) l (resize n z (shown l))
+  pub resize-refused : {e : Error} → Err e ≡ file_found n (shown l).names.nodes → Meets (Err e) l (resize n z (shown l))
   unfolding resize
-  resize-refused {r} {e} k h = meets (refuse e) _ (sym w) (file-refused refuse (resize_file z (shown l)) n (shown l).names g.named.node_order k h)
+  resize-refused {e} h = meets (refuse e) _ (sym w) (file-refused refuse (resize_file z (shown l)) n (shown l).names g.named.node_order refl h)
 
-  module _ {r : FileRow} {f : RowAt} (k : r ≡ row.At f) (h : r ≡ file_found n (shown l).names.nodes) where
+  module _ {f : RowAt} (h : Ok f ≡ file_found n (shown l).names.nodes) where
     its : IsFile n (shown l).names f
-    its = file-found n (shown l).names k h
+    its = file-found n (shown l).names refl h
 
     onward : resize_file z (shown l) f.row ≡ resize n z (shown l)
     unfolding resize
-    onward = file-goes-on n (shown l).names k h refuse (resize_file z (shown l))
+    onward = file-goes-on n (shown l).names refl h refuse (resize_file z (shown l))
 
     pub row-place : Ready l y × (f.place < length (shown l).names.nodes)
     row-place = (ready, its.place)
 
     -- the row with the new size
-    new_row : {d : NodeRecord} → d ≡ sized z f.row → d ≡ sized z (node_at (shown l).names.nodes f.place)
-    new_row e = e ∙ rw its.here
+    new_row : sized z f.row ≡ sized z (node_at (shown l).names.nodes f.place)
+    new_row = ap (sized z) its.here
 
     module _ {x : ℕ} (p : x ≡ file_limit f.row.limit) where
-      pub resize-above : x < z → Meets (Refused FileTooLarge) l (resize n z (shown l))
+      pub resize-above : x < z → Meets (Err FileTooLarge) l (resize n z (shown l))
       unfolding resize_file
       resize-above e = meets (refuse FileTooLarge) _ (sym w) (pick_true _ _ _ _ (rw (← p) (lt-ltb _ _ e)) refl ∙ onward)
 
       module _ (s : z ≤ x) where
-        pub resize-grown : f.row.size ≤ z → {d : NodeRecord} → d ≡ sized z f.row → {o : List ℕ} → o ≡ laid (on_names (with_nodes (set (shown l).names.nodes f.place d)) (shown l)) → Meets (Done 0) o (resize n z (shown l))
+        pub resize-grown : f.row.size ≤ z → {o : List ℕ} → o ≡ laid (on_names (with_nodes (set (shown l).names.nodes f.place (sized z f.row))) (shown l)) → Meets (Ok 0) o (resize n z (shown l))
         unfolding resize_file
-        resize-grown e d q =
-            meets (becomes 0 (on_names (with_node f.row.node (sized z)) (shown l))) _ (rw its.number (row-set n (sized z) (shown l).names.nodes f.place g.named.node_order its.found (new_row d) (shown l) refl l refl q))
+        resize-grown e q =
+            meets (becomes 0 (on_names (with_node f.row.node (sized z)) (shown l))) _ (rw its.number (row-set n (sized z) (shown l).names.nodes f.place g.named.node_order its.found new_row (shown l) refl l refl q))
             (pick-false _ _ _ _ (rw (← p) (le-ltb _ _ s)) (pick-false _ _ _ _ (le-ltb _ _ e) refl) ∙ onward)
 
         module _ (e : z < f.row.size) {m : List ℕ} (less : m ≡ laid (on_store (shrunk n z) (shown l))) where
@@ -117,8 +114,8 @@ module _ (n z : ℕ) (l : List ℕ) (y : Layout) (ready : Ready l y) (g : Good (
           pub size-asked : Ready m y × (f.place < length (shown m).names.nodes)
           size-asked = (behind.1, rw behind.0 its.place)
 
-          pub resize-shrunk : {d : NodeRecord} → d ≡ sized z f.row → {o : List ℕ} → o ≡ laid (on_names (with_nodes (set (shown m).names.nodes f.place d)) (shown m)) → Meets (Done 0) o (resize n z (shown l))
+          pub resize-shrunk : {o : List ℕ} → o ≡ laid (on_names (with_nodes (set (shown m).names.nodes f.place (sized z f.row))) (shown m)) → Meets (Ok 0) o (resize n z (shown l))
           unfolding resize_file
-          resize-shrunk d a =
-              meets (becomes 0 (on_names (with_node f.row.node (sized z)) (on_store (shrunk f.row.node z) (shown l)))) _ (rw its.number (row-set n (sized z) (shown l).names.nodes f.place g.named.node_order its.found (new_row d) (on_store (shrunk n z) (shown l)) refl m behind.0 a))
+          resize-shrunk a =
+              meets (becomes 0 (on_names (with_node f.row.node (sized z)) (on_store (shrunk f.row.node z) (shown l)))) _ (rw its.number (row-set n (sized z) (shown l).names.nodes f.place g.named.node_order its.found new_row (on_store (shrunk n z) (shown l)) refl m behind.0 a))
               (pick-false _ _ _ _ (rw (← p) (le-ltb _ _ s)) (pick_true _ _ _ _ (lt-ltb _ _ e) refl) ∙ onward)

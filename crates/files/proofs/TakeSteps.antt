@@ -15,7 +15,6 @@ use Rattle.words.proofs.Parts.{length-zeros, length_over}
 use Rattle.words.proofs.Written.{over-within, length-lent}
 use Rattle.allocator.specs.Allocator.{allocate}
 use Rattle.allocator.proofs.Sizes.{accepted-bounds}
-use Rattle.allocator.proofs.Allocated.{allocate-rest}
 use Rattle.volume.specs.declared.ChunkRow.{ChunkRow}
 use Rattle.volume.specs.declared.Layout.{Layout}
 use Rattle.volume.specs.Search.{chunk_under}
@@ -32,7 +31,7 @@ use Rattle.store.proofs.KeptFields.{fits-taken}
 use Rattle.store.proofs.Taken.{new_row, given_inside, taken-long}
 use Rattle.files.specs.Gap.{closed, Gapped}
 use Rattle.files.proofs.Gap.{length_without, each-without, without-new}
-use Rattle.files.proofs.LentChunk.{chunk-ends, chunk-put}
+use Rattle.files.proofs.LentChunk.{bytes-end, bytes-put}
 
 module _ {l : List ℕ} {y : Layout} {p g : ℕ} (q : Gapped l y p g) (st : Workable (closed p g l).store) where
   abbrev v : Volume
@@ -109,15 +108,12 @@ module _ {l : List ℕ} {y : Layout} {p g : ℕ} (q : Gapped l y p g) (st : Work
         shown₂ : shown o ≡ v₂ c
         shown₂ = shown-as (v₂ c) fits₂ laid₂
 
-        size₂ : (s ≡ (shown o).store.allocator.chunk_size) × (0 < s) × (s ≤ 65536)
-        size₂ = rw (shown₂, (allocate-rest v.store.allocator).size) size
-
-        inside₂ : c + (shown o).store.allocator.chunk_size ≤ length (shown o).store.bytes
-        inside₂ = rw (shown₂, (allocate-rest v.store.allocator).size, got.0) (given_inside w st some-room)
+        inside₂ : c + s ≤ length (shown o).store.bytes
+        inside₂ = rw (shown₂, size.0, got.0) (given_inside w st some-room)
 
         -- the chunk ends in the volume
         pub taken-ends : y.area + c + s ≤ length o
-        taken-ends = chunk-ends o y ready₂ c size₂ inside₂
+        taken-ends = bytes-end o y ready₂ c s inside₂
 
         -- it is as long as the part that is lent
         pub taken-lent : length (take (y.area + c + s - (y.area + c)) (drop (y.area + c) o)) ≡ S
@@ -134,7 +130,7 @@ module _ {l : List ℕ} {y : Layout} {p g : ℕ} (q : Gapped l y p g) (st : Work
             let i = given_inside w st some-room in
             let t : length (over (zeros S) at bs) ≡ S = length_over (zeros S) at bs (omega arith) ∙ z in
             let b = sym (over-within v.store.bytes given (zeros S) at bs (omega arith) (omega arith)) in
-            let d : r ≡ laid (v₃ c (over (zeros S) at bs)) = er ∙ chunk-put o y ready₂ c size₂ inside₂ (over (zeros S) at bs) (t ∙ sym size.0) filled ∙ rw shown₂ in
+            let d : r ≡ laid (v₃ c (over (zeros S) at bs)) = er ∙ bytes-put o y ready₂ c s inside₂ _ _ refl refl (over (zeros S) at bs) (t ∙ sym size.0) filled ∙ rw shown₂ in
             let fits : Fits (v₃ c (over (zeros S) at bs)) = fits₃ (over v.store.bytes c (over (zeros S) at bs)) (length_over v.store.bytes c (over (zeros S) at bs) (omega (arith, got.0))) in
             let sh = shown-as (v₃ c (over (zeros S) at bs)) fits d in
             rw ex (

@@ -1,6 +1,7 @@
 -- What a write leaves: after a refusal or an empty write the volume as it was; after an accepted one a good volume that fits, in which the
 -- file has the bytes written and the greater of its size and their end, and all else is as before.
 -- Assumes nothing.
+use Rattle.std.specs.Prelude.{Ok, Err}
 use mathlib.Core.Path.{◌≡◌, refl, sym, ap, ◌∙◌}
 use mathlib.Core.Bool.{Bool, true, false}
 use mathlib.Core.List.{List}
@@ -13,7 +14,6 @@ use Rattle.words.specs.Rules.{pick, Says, holds, fails}
 use Rattle.words.proofs.Rules.{says-eqb, says-ltb}
 use Rattle.types.specs.Nodes.{file_limit}
 use Rattle.types.specs.Answers.{value}
-use Rattle.types.specs.declared.Answer.TheVariants.{Done, Refused}
 use Rattle.types.specs.declared.Error.{Error}
 use Rattle.types.specs.declared.Error.TheVariants.{FileTooLarge, NoChunkRoom}
 use Rattle.types.specs.declared.FileType.TheVariants.{Directory}
@@ -149,18 +149,18 @@ pub write_kept : (n offset : ℕ) (bs : List ℕ) (v : Volume) → Fits v → Go
 write_kept n offset bs v f g = write-cases (λ s. Fits s.after × Good s.after) n offset bs v (λ e. (f, g)) (λ e. (f, g)) (wrote_kept n offset bs v f g)
 
 -- an accepted write of bytes gives their number, and shows them
-pub write-shows : (n offset : ℕ) (bs : List ℕ) (v : Volume) → Fits v → Good v → 0 < length bs → (k : ℕ) → (write n offset bs v).answer ≡ Done k → (k ≡ length bs) × Wrote n offset bs v (write n offset bs v).after
+pub write-shows : (n offset : ℕ) (bs : List ℕ) (v : Volume) → Fits v → Good v → 0 < length bs → (k : ℕ) → (write n offset bs v).answer ≡ Ok k → (k ≡ length bs) × Wrote n offset bs v (write n offset bs v).after
 write-shows n offset bs v f g h k =
-    write-cases (λ s. s.answer ≡ Done k → (k ≡ length bs) × Wrote n offset bs v s.after) n offset bs v (λ e q. let x : ◌≡◌ {A = ℕ} 0 1 = cc in absurd (omega arith)) (λ e q. absurd (omega arith))
+    write-cases (λ s. s.answer ≡ Ok k → (k ≡ length bs) × Wrote n offset bs v s.after) n offset bs v (λ e q. absurd cc) (λ e q. absurd (omega arith))
     (λ r a q. (sym (ap value q), its-shows n offset bs v f g r a))
 
 -- a refusal leaves the volume as it was
-pub write-refused : (n offset : ℕ) (bs : List ℕ) (v : Volume) (e : Error) → (write n offset bs v).answer ≡ Refused e → (write n offset bs v).after ≡ v
+pub write-refused : (n offset : ℕ) (bs : List ℕ) (v : Volume) (e : Error) → (write n offset bs v).answer ≡ Err e → (write n offset bs v).after ≡ v
 write-refused n offset bs v e =
-    write-cases (λ s. s.answer ≡ Refused e → s.after ≡ v) n offset bs v (λ d q. refl) (λ d q. refl) (λ r a q. let x : ◌≡◌ {A = ℕ} 0 1 = cc in absurd (omega arith))
+    write-cases (λ s. s.answer ≡ Err e → s.after ≡ v) n offset bs v (λ d q. refl) (λ d q. refl) (λ r a q. absurd cc)
 
 -- an accepted empty write gives 0 and leaves the volume as it was
-pub write-empty : (n offset : ℕ) (bs : List ℕ) (v : Volume) → length bs ≡ 0 → (k : ℕ) → (write n offset bs v).answer ≡ Done k → (k ≡ 0) × ((write n offset bs v).after ≡ v)
+pub write-empty : (n offset : ℕ) (bs : List ℕ) (v : Volume) → length bs ≡ 0 → (k : ℕ) → (write n offset bs v).answer ≡ Ok k → (k ≡ 0) × ((write n offset bs v).after ≡ v)
 write-empty n offset bs v h k =
-    write-cases (λ s. s.answer ≡ Done k → (k ≡ 0) × (s.after ≡ v)) n offset bs v (λ e q. let x : ◌≡◌ {A = ℕ} 0 1 = cc in absurd (omega arith)) (λ e q. (sym (ap value q), refl))
+    write-cases (λ s. s.answer ≡ Ok k → (k ≡ 0) × (s.after ≡ v)) n offset bs v (λ e q. absurd cc) (λ e q. (sym (ap value q), refl))
     (λ r a q. absurd (omega (arith, a.some_bytes)))

@@ -57,14 +57,13 @@ pub record LeftToWrite (v : Volume) (n offset : ℕ) (bs : List ℕ) (first coun
   pub all : on_store (write_chunks n offset bs (count - i) (first + i)) u ≡ on_store (written n offset bs) v
 
 pub record WroteTo (v : Volume) (y : Layout) (s n offset : ℕ) (bs : List ℕ) (first count row : ℕ) (l : List ℕ) (i gap : ℕ) : Type 0 where
-  pub bound : i ≤ count
   pub gapped : Gapped l y (row + i) gap
-  pub span : IsSpan l s
+  pub span : IsSpan (shown l).store s
   pub left : LeftToWrite v n offset bs first count row i gap (closed (row + i) gap l)
 
 -- ---- its start: the gap opened
 
-module _ (l₀ : List ℕ) (y : Layout) (r : Ready l₀ y) {s : ℕ} (size : IsSpan l₀ s) (n offset : ℕ) (bs : List ℕ) (st : Workable (shown l₀).store) (some_bytes : 0 < length bs) {first count row gap : ℕ} (ef : first ≡ offset / s)
+module _ (l₀ : List ℕ) (y : Layout) (r : Ready l₀ y) {s : ℕ} (size : IsSpan (shown l₀).store s) (n offset : ℕ) (bs : List ℕ) (st : Workable (shown l₀).store) (some_bytes : 0 < length bs) {first count row gap : ℕ} (ef : first ≡ offset / s)
     (ec : count ≡ num_of s offset (length bs)) (er : row ≡ lead (chunk_under n (offset / s)) (shown l₀).store.chunks) (eg : gap ≡ holes n offset (length bs) (shown l₀).store) (enough : gap ≤ room (shown l₀).store) where
   abbrev v : Volume
   v = shown l₀
@@ -118,7 +117,6 @@ module _ (l₀ : List ℕ) (y : Layout) (r : Ready l₀ y) {s : ℕ} (size : IsS
     write-start =
         let here : LeftToWrite (closed row gap m) n offset bs first count row 0 gap (closed row gap m) = subst (λ (u : Volume). LeftToWrite u n offset bs first count row 0 gap u) (sym opened-closed) first-left in
         record {
-          bound = omega arith;
           gapped = record { ready = after.1; inside = rw (after.0, length-opened) (omega (arith, row_inside)) };
           span = rw after.0 size;
           left = rw (add-zero row) here;
@@ -142,7 +140,7 @@ module _ {v : Volume} {y : Layout} {s n offset : ℕ} {bs : List ℕ} {first cou
     holes-first = let e : count - i ≡ suc (count - (i + 1)) = omega arith in rw e at inv.left.holes_left
 
     -- what `write_chunk` asks
-    pub chunk-asked : Gapped l y (row + i) gap × Workable u.store × (row + i ≡ lead (chunk_under n (first + i)) u.store.chunks) × (hole (chunk n (first + i) u.store.chunks) ≤ room u.store) × (hole (chunk n (first + i) u.store.chunks) ≤ gap) × IsSpan l s
+    pub chunk-asked : Gapped l y (row + i) gap × Workable u.store × (row + i ≡ lead (chunk_under n (first + i)) u.store.chunks) × (hole (chunk n (first + i) u.store.chunks) ≤ room u.store) × (hole (chunk n (first + i) u.store.chunks) ≤ gap) × IsSpan (shown l).store s
     chunk-asked = (inv.gapped, inv.left.rest.stored, inv.left.next, first-enough n offset bs (count - (i + 1)) (first + i) u.store again, omega (arith, holes-first), inv.span)
 
     pub chunk-touched : offset + length bs ≤ 1099511627776
@@ -169,7 +167,6 @@ module _ {v : Volume} {y : Layout} {s n offset : ℕ} {bs : List ℕ} {first cou
         let z : (shown m).store.allocator.chunk_size ≡ (shown l).store.allocator.chunk_size = ap (λ (w : Volume). w.store.allocator.chunk_size) e.2 ∙ (kept-write_chunk n offset bs (first + i) u.store).rest.size in
         let d : row + i + 1 ≡ row + (i + 1) = omega arith in
         record {
-          bound = omega arith;
           gapped = rw d at e.1;
           span = rw z inv.span;
           left = subst (LeftToWrite v n offset bs first count row (i + 1) g) (sym (rw d at e.2)) (next-left g e.0);

@@ -1,10 +1,9 @@
 -- Believed: the volume that the scope's boundary rows P1 to P7 start from, and a chunk row of theirs. The rows stand in
 -- crates/sequences/specs/Boundary.antt.
 -- Assumes nothing.
-use Rattle.std.specs.Prelude.{◌≡◌, ℕ, ◌≤◌}
+use Rattle.std.specs.Prelude.{◌≡◌, ℕ, ◌≤◌, None}
 use Rattle.std.proofs.Math.Option.{some}
 use Rattle.types.specs.declared.FileType.TheVariants.{RegularFile}
-use Rattle.types.specs.declared.Limit.TheVariants.{Unlimited}
 use Rattle.types.specs.declared.NodeRecord.{NodeRecord}
 use Rattle.volume.specs.declared.ChunkRow.{ChunkRow}
 use Rattle.volume.specs.Volume.{Volume}
@@ -21,7 +20,7 @@ pub record Start (n : ℕ) (r : NodeRecord) (v : Volume) : Type 0 where
   pub there : node n v.names ≡ some r
   pub file : r.kind ≡ RegularFile
   pub empty : r.size ≡ 0
-  pub unlimited : r.limit ≡ Unlimited
+  pub unlimited : r.limit ≡ None
 
 -- chunk k of node n at this pointer
 abbrev pub row : ℕ → ℕ → ℕ → ChunkRow

@@ -4,7 +4,7 @@ use Rattle.std.specs.Prelude.{ℕ, ltb}
 use Rattle.words.specs.Rules.{pick}
 use Rattle.types.specs.Sizes.{most_size}
 use Rattle.types.specs.Nodes.{limit_word, file_limit}
-use Rattle.types.specs.declared.Limit.{Limit}
+use Rattle.types.specs.Nodes.{Limit}
 use Rattle.types.specs.declared.Error.TheVariants.{InvalidArgument, FileTooLarge}
 use Rattle.types.specs.declared.NodeRecord.{NodeRecord}
 use Rattle.volume.specs.Volume.{Volume, on_names}

@@ -1,5 +1,5 @@
 // Freeing the chunks of a file: its rows follow one another in the table.
-ghost use Rattle.std.specs.Prelude.{◌≡◌, map, ℕ, ◌+◌, ◌≤◌, ◌<◌, eqb, length, take, drop};
+ghost use Rattle.std.specs.Prelude.{◌≡◌, map, ℕ, ◌+◌, ◌≤◌, ◌<◌, length, take, drop};
 ghost use Rattle.words.specs.Tables.{lead};
 ghost use Rattle.allocator.specs.Allocator.{release, released};
 ghost use Rattle.volume.specs.Search.{chunk_under};
@@ -8,33 +8,21 @@ ghost use Rattle.tables.specs.Tables.{Ready, chunk_at};
 ghost use Rattle.store.specs.Cut.{cut_from};
 ghost use Rattle.store.specs.Workable.{Workable};
 
+use crate::rows::count_leading;
+use tables::Tables;
 use volume::Layout;
-
-// How many rows, from the first place on, are the node's.
-fn rows_of(volume: &[u8], layout: Layout, node: u64, first: usize) -> usize
-    requires { Ready volume.now layout × (first ≤ length (shown volume.now).store.chunks) }
-    ensures { result ≡ lead (λ c. eqb c.node node) (drop first (shown volume.now).store.chunks) }
-{
-    let used = tables::chunks_used(volume, layout);
-    let mut i = first;
-    while i < used {
-        let row = tables::chunk_row(volume, layout, i);
-        if row.node != node {
-            return i - first;
-        }
-        i += 1;
-    }
-    i - first
-}
 
 // Frees the chunk of the row at a place.
 fn free_row(volume: &mut [u8], layout: Layout, place: usize)
     requires { Ready volume.old layout × (place < length (shown volume.old).store.chunks) × ((shown volume.old).store.allocator.free_count < (shown volume.old).store.chunk_room) }
     ensures { volume.new ≡ laid (on_store (with_allocator (release (chunk_at (shown volume.old).store.chunks place).pointer (shown volume.old).store.allocator)) (shown volume.old)) }
 {
-    let row = tables::chunk_row(volume, layout, place);
-    let pointer = row.pointer;
-    tables::free(volume, layout, pointer);
+    let tables = Tables {
+        bytes: volume,
+        layout,
+    };
+    let row = tables.chunk_row(place);
+    tables::free(volume, layout, row.pointer);
 }
 
 // Frees the chunks of n rows, from the first place on, in the rows' order.
@@ -42,10 +30,8 @@ fn free_rows(volume: &mut [u8], layout: Layout, first: usize, n: usize)
     requires { Ready volume.old layout × (first + n ≤ length (shown volume.old).store.chunks) × ((shown volume.old).store.allocator.free_count + n ≤ (shown volume.old).store.chunk_room) }
     ensures { volume.new ≡ laid (on_store (with_allocator (released (map (λ c. c.pointer) (take n (drop first (shown volume.old).store.chunks))) (shown volume.old).store.allocator)) (shown volume.old)) }
 {
-    let mut i = 0;
-    while i < n {
+    for i in 0..n {
         free_row(volume, layout, first + i);
-        i += 1;
     }
 }
 
@@ -55,7 +41,11 @@ pub fn cut_rows(volume: &mut [u8], layout: Layout, node: u64, first: usize)
     requires { Ready volume.old layout × Workable (shown volume.old).store × (first ≤ length (shown volume.old).store.chunks) }
     ensures { (index : ℕ) → first ≡ lead (chunk_under node index) (shown volume.old).store.chunks → volume.new ≡ laid (on_store (cut_from node index) (shown volume.old)) }
 {
-    let n = rows_of(volume, layout, node, first);
+    let tables = Tables {
+        bytes: volume,
+        layout,
+    };
+    let n = count_leading(&tables, first, |row| row.node == node);
     free_rows(volume, layout, first, n);
     tables::remove_chunks(volume, layout, first, n);
 }

@@ -13,33 +13,39 @@ ghost use Rattle.files.specs.Resize.{resize};
 
 use crate::chunks::clear_rest;
 use crate::cutting::cut_rows;
-use crate::files::{FileRow, find_file};
+use crate::files::find_file;
 use crate::rows::is_row;
-use types::{Answer, Error};
+use tables::Tables;
+use types::{Error, NodeRecord};
 use volume::Layout;
 
 // Zeroes a file from byte end to the end of its chunk, unless that is a hole.
 fn zero_tail(volume: &mut [u8], layout: Layout, span: u64, node: u64, end: u64, tail: usize)
-    requires { Ready volume.old layout × Workable (shown volume.old).store × (tail ≡ lead (chunk_under node (end / span)) (shown volume.old).store.chunks) × IsSpan volume.old span }
+    requires { Ready volume.old layout × Workable (shown volume.old).store × (tail ≡ lead (chunk_under node (end / span)) (shown volume.old).store.chunks) × IsSpan (shown volume.old).store span }
     ensures { volume.new ≡ laid (on_store (tail_zeroed node end) (shown volume.old)) }
 {
-    if !is_row(volume, layout, tail, node, end / span) {
+    let tables = Tables {
+        bytes: volume,
+        layout,
+    };
+    if !is_row(&tables, tail, node, end / span) {
         return;
     }
-    let chunk = tables::chunk_row(volume, layout, tail);
+    let chunk = tables.chunk_row(tail);
     let from = (end % span) as usize;
     clear_rest(volume, layout, span, chunk.pointer, from);
 }
 
 // The place of the first row that a cut to byte end frees: at the tail, or behind it if the end lies inside its chunk.
-fn first_cut(volume: &[u8], layout: Layout, span: u64, node: u64, end: u64, tail: usize) -> usize
-    requires { Ready volume.now layout × Workable (shown volume.now).store × (tail ≡ lead (chunk_under node (end / span)) (shown volume.now).store.chunks) × IsSpan volume.now span }
-    ensures { (result ≡ lead (chunk_under node (round_up (shown volume.now).store.allocator.chunk_size end)) (shown volume.now).store.chunks) × (result ≤ length (shown volume.now).store.chunks) }
+fn first_cut(tables: &Tables, span: u64, node: u64, end: u64, tail: usize) -> usize
+    requires { Workable tables.now.store × (tail ≡ lead (chunk_under node (end / span)) tables.now.store.chunks) × IsSpan tables.now.store span }
+    ensures { (result ≡ lead (chunk_under node (round_up tables.now.store.allocator.chunk_size end)) tables.now.store.chunks) × (result ≤ length tables.now.store.chunks) }
 {
+    let _ = &tables.layout;
     if end % span == 0 {
         return tail;
     }
-    if is_row(volume, layout, tail, node, end / span) {
+    if is_row(tables, tail, node, end / span) {
         return tail + 1;
     }
     tail
@@ -50,33 +56,36 @@ fn resize_file_internal(volume: &mut [u8], layout: Layout, node: u64, end: u64)
     requires { Ready volume.old layout × Good (shown volume.old) }
     ensures { volume.new ≡ laid (on_store (shrunk node end) (shown volume.old)) }
 {
-    let span = tables::chunk_size(volume, layout);
-    let tail = tables::first_chunk(volume, layout, node, end / span);
-    let first = first_cut(volume, layout, span, node, end, tail);
+    let tables = Tables {
+        bytes: volume,
+        layout,
+    };
+    let span = tables.chunk_size();
+    let tail = tables.first_chunk(node, end / span);
+    let first = first_cut(&tables, span, node, end, tail);
     cut_rows(volume, layout, node, first);
     zero_tail(volume, layout, span, node, end, tail);
 }
 
 // Gives a file another size. A file cut has zeros behind its end, which show if it is extended again.
-pub fn resize_file(volume: &mut [u8], layout: Layout, node: u64, size: u64) -> Answer
+pub fn resize_file(volume: &mut [u8], layout: Layout, node: u64, size: u64) -> Result<u64, Error>
     requires { Ready volume.old layout × Good (shown volume.old) }
     ensures { (result ≡ (resize node size (shown volume.old)).answer) × (volume.new ≡ laid (resize node size (shown volume.old)).after) }
 {
-    let found = find_file(volume, layout, node);
-    let file = match found {
-        FileRow::At(file) => file,
-        FileRow::Refused(error) => return Answer::Refused(error),
+    let tables = Tables {
+        bytes: volume,
+        layout,
     };
+    let file = find_file(&tables, node)?;
     let row = file.row;
-    let limit = row.limit;
-    if types::file_limit(limit) < size {
-        return Answer::Refused(Error::FileTooLarge);
+    if types::file_limit(row.limit) < size {
+        return Err(Error::FileTooLarge);
     }
     if row.size <= size {
-        tables::change_node(volume, layout, file.place, tables::with_size(row, size));
-        return Answer::Done(0);
+        tables::change_node(volume, layout, file.place, NodeRecord { size, ..row });
+        return Ok(0);
     }
     resize_file_internal(volume, layout, node, size);
-    tables::change_node(volume, layout, file.place, tables::with_size(row, size));
-    Answer::Done(0)
+    tables::change_node(volume, layout, file.place, NodeRecord { size, ..row });
+    Ok(0)
 }

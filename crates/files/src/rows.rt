@@ -1,42 +1,39 @@
 // Rows of the chunk table.
-ghost use Rattle.std.specs.Prelude.{◌≡◌, ◌≤◌, length, drop, ltb};
+ghost use Rattle.std.specs.Prelude.{◌≡◌, Bool, ◌≤◌, length, drop, ltb};
 ghost use Rattle.words.specs.Rules.{both};
 ghost use Rattle.words.specs.Tables.{lead};
-ghost use Rattle.volume.specs.Volume.{shown};
-ghost use Rattle.volume.specs.Search.{chunk_under};
-ghost use Rattle.tables.specs.Tables.{Ready, chunk_at};
+ghost use Rattle.volume.specs.declared.ChunkRow.{ChunkRow};
+ghost use Rattle.tables.specs.Tables.{chunk_at};
 ghost use Rattle.tables.specs.OneRow.{is_chunk};
 
-use volume::Layout;
+use tables::Tables;
+use volume::ChunkRow;
 
-// Whether there is a row at a place of the chunk table, and it is that of a node's chunk.
-pub fn is_row(volume: &[u8], layout: Layout, place: usize, node: u64, index: u64) -> bool
-    requires { Ready volume.now layout }
-    ensures { result ≡ both (ltb place (length (shown volume.now).store.chunks)) (is_chunk node index (chunk_at (shown volume.now).store.chunks place)) }
+// Whether a row is that of a node's chunk.
+#[tactic(auto, unfolding(words::specs::Rules::both))]
+fn is_chunk(row: ChunkRow, node: u64, index: u64) -> bool
+    ensures { result ≡ is_chunk node index row }
 {
-    if tables::chunks_used(volume, layout) <= place {
-        return false;
-    }
-    let chunk = tables::chunk_row(volume, layout, place);
-    if chunk.node != node {
-        return false;
-    }
-    chunk.index == index
+    row.node == node && row.index == index
 }
 
-// How many rows, from the first place on, come before the row of a node's chunk.
-pub fn rows_before(volume: &[u8], layout: Layout, node: u64, index: u64, first: usize) -> usize
-    requires { Ready volume.now layout × (first ≤ length (shown volume.now).store.chunks) }
-    ensures { result ≡ lead (chunk_under node index) (drop first (shown volume.now).store.chunks) }
+// Whether there is a row at a place of the chunk table, and it is that of a node's chunk.
+#[tactic(auto, unfolding(words::specs::Rules::both))]
+pub fn is_row(tables: &Tables, place: usize, node: u64, index: u64) -> bool
+    ensures { result ≡ both (ltb place (length tables.now.store.chunks)) (is_chunk node index (chunk_at tables.now.store.chunks place)) }
 {
-    let used = tables::chunks_used(volume, layout);
-    let mut i = first;
-    while i < used {
-        let row = tables::chunk_row(volume, layout, i);
-        if !volume::pair_before(row.node, row.index, node, index) {
-            return i - first;
-        }
-        i += 1;
-    }
-    i - first
+    place < tables.chunks_used() && is_chunk(tables.chunk_row(place), node, index)
+}
+
+// How many rows pass a test, from the first place on, until one fails it.
+pub fn count_leading<F: Fn(ChunkRow) -> bool>(tables: &Tables, first: usize, passes: F) -> usize
+    requires inside { first ≤ length tables.now.store.chunks }
+    requires asked { (row : ChunkRow) → F.pre passes row }
+    ensures { (test : ChunkRow → Bool) → ((row : ChunkRow) (b : Bool) → F.post passes row b → b ≡ test row) → result ≡ lead test (drop first tables.now.store.chunks) }
+{
+    let used = tables.chunks_used();
+    (first..used)
+        .map(|i| tables.chunk_row(i))
+        .take_while(|row| passes(*row))
+        .count()
 }

@@ -13,10 +13,11 @@ ghost use Rattle.files.specs.FileRows.{IsSpan};
 ghost use Rattle.files.specs.Gap.{closed, Gapped};
 ghost use Rattle.files.specs.Write.{write as Write·write};
 
-use crate::chunks::{count_room, keep_chunk, lesser, take_chunk};
-use crate::files::{FileRow, find_file};
-use crate::rows::{is_row, rows_before};
-use types::{Answer, Error};
+use crate::chunks::{count_room, keep_chunk, take_chunk};
+use crate::files::find_file;
+use crate::rows::{count_leading, is_row};
+use tables::Tables;
+use types::{Error, NodeRecord};
 use volume::Layout;
 
 // What of the bytes falls into a chunk: from which byte of the chunk, from which of the bytes, how many.
@@ -25,16 +26,6 @@ struct ChunkPiece {
     from: usize,
     start: usize,
     count: usize,
-}
-
-// The greater of two numbers.
-fn greater(a: u64, b: u64) -> u64
-    ensures { result ≡ max a b }
-{
-    if a < b {
-        return b;
-    }
-    a
 }
 
 // Whether count bytes from an offset on end past a limit. Their end as a sum could wrap.
@@ -56,32 +47,27 @@ fn chunks_touched(offset: u64, count: u64, span: u64) -> u64
 }
 
 // How many chunks that count bytes at an offset touch have no row: counted from the rows, the first of which is at the place given.
-fn count_holes(
-    volume: &[u8],
-    layout: Layout,
-    span: u64,
-    node: u64,
-    offset: u64,
-    count: u64,
-    place: usize,
-) -> u64
-    requires { Ready volume.now layout × Workable (shown volume.now).store × (0 < count) × (offset + count ≤ 1099511627776) × (place ≡ lead (chunk_under node (offset / span)) (shown volume.now).store.chunks) × IsSpan volume.now span }
-    ensures { result ≡ Room·holes node offset count (shown volume.now).store }
+fn count_holes(tables: &Tables, span: u64, node: u64, offset: u64, count: u64, place: usize) -> u64
+    requires { Workable tables.now.store × (0 < count) × (offset + count ≤ 1099511627776) × (place ≡ lead (chunk_under node (offset / span)) tables.now.store.chunks) × IsSpan tables.now.store span }
+    ensures { result ≡ Room·holes node offset count tables.now.store }
 {
     let touched = chunks_touched(offset, count, span);
     let end = offset / span + touched;
-    touched - rows_before(volume, layout, node, end, place) as u64
+    let rows = count_leading(tables, place, |row| {
+        volume::pair_before(row.node, row.index, node, end)
+    });
+    touched - rows as u64
 }
 
 // Whether so many chunks outnumber those that can be taken.
-fn is_cramped(volume: &[u8], layout: Layout, span: u64, count: u64) -> bool
-    requires { Ready volume.now layout × Workable (shown volume.now).store × IsSpan volume.now span }
-    ensures { result ≡ ltb (room (shown volume.now).store) count }
+fn is_cramped(tables: &Tables, span: u64, count: u64) -> bool
+    requires { Workable tables.now.store × IsSpan tables.now.store span }
+    ensures { result ≡ ltb (room tables.now.store) count }
 {
     if count == 0 {
         return false;
     }
-    count_room(volume, layout, span) < count
+    count_room(tables, span) < count
 }
 
 // What of count bytes at an offset falls into the chunk of an index that they touch.
@@ -91,8 +77,8 @@ fn piece_of(offset: u64, count: u64, index: u64, span: u64) -> ChunkPiece
 {
     let begin = index * span;
     let end = begin + span;
-    let low = greater(offset, begin);
-    let high = lesser(offset + count, end);
+    let low = offset.max(begin);
+    let high = end.min(offset + count);
     ChunkPiece {
         from: (low - begin) as usize,
         start: (low - offset) as usize,
@@ -113,8 +99,8 @@ fn write_chunk(
     place: usize,
     gap: usize,
 ) -> usize
-    requires gapped { Gapped volume.old layout place gap × Workable (closed place gap volume.old).store × (place ≡ lead (chunk_under node index) (closed place gap volume.old).store.chunks) × (hole (chunk node index (closed place gap volume.old).store.chunks) ≤ room (closed place gap volume.old).store) × (hole (chunk node index (closed place gap volume.old).store.chunks) ≤ gap) × IsSpan volume.old span }
-    requires offset_bound { (offset < index * (shown volume.old).store.allocator.chunk_size + (shown volume.old).store.allocator.chunk_size) × (index * (shown volume.old).store.allocator.chunk_size < offset + length bytes.now) × (offset + length bytes.now ≤ 1099511627776) }
+    requires gapped { Gapped volume.old layout place gap × Workable (closed place gap volume.old).store × (place ≡ lead (chunk_under node index) (closed place gap volume.old).store.chunks) × (hole (chunk node index (closed place gap volume.old).store.chunks) ≤ room (closed place gap volume.old).store) × (hole (chunk node index (closed place gap volume.old).store.chunks) ≤ gap) × IsSpan (shown volume.old).store span }
+    requires touched { (offset < index * (shown volume.old).store.allocator.chunk_size + (shown volume.old).store.allocator.chunk_size) × (index * (shown volume.old).store.allocator.chunk_size < offset + length bytes.now) × (offset + length bytes.now ≤ 1099511627776) }
     ensures { (result ≡ gap - hole (chunk node index (closed place gap volume.old).store.chunks)) × Gapped volume.new layout (place + 1) result × (closed (place + 1) result volume.new ≡ on_store (write_chunk node offset bytes.now index) (closed place gap volume.old)) }
 {
     let piece = piece_of(offset, bytes.len() as u64, index, span);
@@ -122,8 +108,12 @@ fn write_chunk(
     let start = piece.start;
     let count = piece.count;
     let part = &bytes[start..start + count];
-    if is_row(volume, layout, place + gap, node, index) {
-        keep_chunk(volume, layout, span, place, gap, from, part);
+    let tables = Tables {
+        bytes: volume,
+        layout,
+    };
+    if is_row(&tables, place + gap, node, index) {
+        keep_chunk(volume, layout, place, gap, from, part);
         return gap;
     }
     take_chunk(volume, layout, span, node, index, place, gap, from, part)
@@ -141,15 +131,14 @@ fn write_chunks_v2(
     place: usize,
     holes: u64,
 )
-    requires { Ready volume.old layout × Workable (shown volume.old).store × (0 < length bytes.now) × (offset + length bytes.now ≤ 1099511627776) × (holes ≡ Room·holes node offset (length bytes.now) (shown volume.old).store) × (holes ≤ room (shown volume.old).store) × (place ≡ lead (chunk_under node (offset / span)) (shown volume.old).store.chunks) × IsSpan volume.old span }
+    requires { Ready volume.old layout × Workable (shown volume.old).store × (0 < length bytes.now) × (offset + length bytes.now ≤ 1099511627776) × (holes ≡ Room·holes node offset (length bytes.now) (shown volume.old).store) × (holes ≤ room (shown volume.old).store) × (place ≡ lead (chunk_under node (offset / span)) (shown volume.old).store.chunks) × IsSpan (shown volume.old).store span }
     ensures { volume.new ≡ laid (on_store (written node offset bytes.now) (shown volume.old)) }
 {
     let first = offset / span;
     let count = chunks_touched(offset, bytes.len() as u64, span);
     let mut gap = holes as usize;
     tables::open_chunks(volume, layout, place, gap);
-    let mut i = 0;
-    while i < count {
+    for i in 0..count {
         gap = write_chunk(
             volume,
             layout,
@@ -161,38 +150,42 @@ fn write_chunks_v2(
             place + i as usize,
             gap,
         );
-        i += 1;
     }
 }
 
 // Writes bytes into a file from an offset on, and answers how many. A gap before them reads zero.
-pub fn write(volume: &mut [u8], layout: Layout, node: u64, offset: u64, bytes: &[u8]) -> Answer
+pub fn write(
+    volume: &mut [u8],
+    layout: Layout,
+    node: u64,
+    offset: u64,
+    bytes: &[u8],
+) -> Result<u64, Error>
     requires { Ready volume.old layout × Good (shown volume.old) }
     ensures { (result ≡ (Write·write node offset bytes.now (shown volume.old)).answer) × (volume.new ≡ laid (Write·write node offset bytes.now (shown volume.old)).after) }
 {
-    let found = find_file(volume, layout, node);
-    let file = match found {
-        FileRow::At(file) => file,
-        FileRow::Refused(error) => return Answer::Refused(error),
+    let tables = Tables {
+        bytes: volume,
+        layout,
     };
+    let file = find_file(&tables, node)?;
     let row = file.row;
     let count = bytes.len() as u64;
     if count == 0 {
-        return Answer::Done(0);
+        return Ok(0);
     }
-    let limit = row.limit;
-    if exceeds(types::file_limit(limit), offset, count) {
-        return Answer::Refused(Error::FileTooLarge);
+    if exceeds(types::file_limit(row.limit), offset, count) {
+        return Err(Error::FileTooLarge);
     }
-    let span = tables::chunk_size(volume, layout);
-    let first = tables::first_chunk(volume, layout, node, offset / span);
-    let holes = count_holes(volume, layout, span, node, offset, count, first);
-    if is_cramped(volume, layout, span, holes) {
-        return Answer::Refused(Error::NoChunkRoom);
+    let span = tables.chunk_size();
+    let first = tables.first_chunk(node, offset / span);
+    let holes = count_holes(&tables, span, node, offset, count, first);
+    if is_cramped(&tables, span, holes) {
+        return Err(Error::NoChunkRoom);
     }
     write_chunks_v2(volume, layout, span, node, offset, bytes, first, holes);
     let end = offset + count;
-    let size = greater(row.size, end);
-    tables::change_node(volume, layout, file.place, tables::with_size(row, size));
-    Answer::Done(count)
+    let size = row.size.max(end);
+    tables::change_node(volume, layout, file.place, NodeRecord { size, ..row });
+    Ok(count)
 }

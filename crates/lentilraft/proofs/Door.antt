@@ -1,20 +1,18 @@
 -- The outcome of each call, by what the check says of the memory; and that it is the only one.
 -- Assumes nothing.
-use mathlib.Core.Path.{◌≡◌, refl, sym, ap}
+use Rattle.std.specs.Prelude.{Result, Ok, Err, IsErrAnd}
+use mathlib.Core.Path.{◌≡◌, refl, sym, ap, ◌∙◌}
 use mathlib.Core.Bool.{Bool, true, false}
 use mathlib.Core.List.{List}
 use Prim.Native.Nat.{ℕ, ◌≤◌, ◌<◌}
-use native.Mathlib.Omega.{arith}
 use lib.ListN.{length}
-use denote.Enum.Declared.{tag_of}
-use borrow.Author.Tests.{ne_eqb, lt-ltb, le-ltb}
+use borrow.Author.Tests.{lt-ltb, le-ltb}
 use Rattle.words.specs.Bytes.{over}
 use Rattle.words.specs.Rules.{pick, Says, holds, fails}
 use Rattle.words.proofs.Rules.{pick_true, pick-false}
 use Rattle.types.specs.declared.Expected.{Expected}
-use Rattle.types.specs.declared.Limit.{Limit}
-use Rattle.types.specs.declared.Answer.{Answer}
-use Rattle.types.specs.declared.Answer.TheVariants.{Done, Refused}
+use Rattle.types.specs.Nodes.{Limit}
+use Rattle.types.specs.Answers.{Answer}
 use Rattle.types.specs.declared.Error.{Error}
 use Rattle.types.specs.declared.Error.TheVariants.{UnsoundMemory, InvalidArgument, OutputTooShort}
 use Rattle.types.specs.Outcomes.{Outcome, outcome, OneOutcome}
@@ -24,13 +22,12 @@ use Rattle.allocator.specs.Opening.{opened}
 use Rattle.volume.specs.Fresh.{new_volume}
 use Rattle.volume.specs.Steps.{Step, name_step}
 use Rattle.volume.specs.Sound.{Sound}
-use Rattle.soundness.specs.Checked.{sound}
-use Rattle.soundness.proofs.Checked.{says-sound}
+use Rattle.soundness.specs.Checked.{sound, place_if_sound}
+use Rattle.soundness.proofs.Checked.{says-sound, not_opened}
 use Rattle.names.specs.Unlinking as Unlinking
-use Rattle.lentilraft.specs.declared.naming.Wanted.{Wanted}
-use Rattle.lentilraft.specs.declared.naming.Wanted.TheVariants.{Known, Unknown}
-use Rattle.lentilraft.specs.Door.{if_sound, door, door_into, check, set_chunk_size, set_limit, read, resize, write, find_node, search, create, link, unlink, wanted_of, unlink_wanted, unlink_byte, remove}
-use Rattle.lentilraft.specs.contracts.naming.Wanted as WantedType
+use Rattle.types.specs.Kinds.{wanted_of, MeansExpected}
+use Rattle.types.proofs.Results.{or-given, or-refused, exit-is}
+use Rattle.lentilraft.specs.Door.{if_sound, door, door_into, check, set_chunk_size, set_limit, read, resize, write, find_node, search, create, link, unlink, unlink_wanted, unlink_byte, remove}
 use Rattle.lentilraft.specs.Report.{text, least_output, reported, report}
 
 -- ---- the outcome of a call
@@ -57,7 +54,11 @@ module _ {A : Type 0} (l : List ℕ) (refuse : Error → A) (call : Volume → A
       go true (holds h) = called h
       go false (fails h) = refused
 
-pub door-shut : (l : List ℕ) (call : Volume → Step) → sound l ≡ false → outcome (Refused UnsoundMemory) l ≡ door l call
+-- the exit of a call whose check refused
+pub exit-shut : {T : Type 0} (l : List ℕ) (r : Result T Error) {e : Error} → Err e ≡ place_if_sound l → IsErrAnd r (λ y. y ≡ e) → (r ≡ Err UnsoundMemory) × (sound l ≡ false)
+exit-shut l r h x = let n = not_opened l h in (exit-is r x ∙ ap Err n.1, n.0)
+
+pub door-shut : (l : List ℕ) (call : Volume → Step) → sound l ≡ false → outcome (Err UnsoundMemory) l ≡ door l call
 unfolding door
 door-shut l call e = shut l _ _ e
 
@@ -66,7 +67,7 @@ unfolding door
 door-open l call e h = let-in l _ _ e (told h.0 h.1)
 
 module _ (l buffer : List ℕ) (call : Volume → List ℕ → Outcome) where
-  pub into-shut : sound l ≡ false → outcome (Refused UnsoundMemory) buffer ≡ door_into l buffer call
+  pub into-shut : sound l ≡ false → outcome (Err UnsoundMemory) buffer ≡ door_into l buffer call
   unfolding door_into
   into-shut e = shut l _ _ e
 
@@ -75,13 +76,13 @@ module _ (l buffer : List ℕ) (call : Volume → List ℕ → Outcome) where
   into-open e h = let-in l _ _ e h
 
 module _ (l out : List ℕ) where
-  pub report-short : sound l ≡ true → length out < least_output → outcome (Refused OutputTooShort) out ≡ report l out
+  pub report-short : sound l ≡ true → length out < least_output → outcome (Err OutputTooShort) out ≡ report l out
   unfolding report reported
   report-short e h = into-open l out reported e (pick_true _ _ _ _ (lt-ltb (length out) least_output h) refl)
 
-  pub report-full : {n : ℕ} {m : List ℕ} → sound l ≡ true → least_output ≤ length out → n ≡ length (text (shown l)) → m ≡ over out 0 (text (shown l)) → outcome (Done n) m ≡ report l out
+  pub report-full : {n : ℕ} {m : List ℕ} → sound l ≡ true → least_output ≤ length out → n ≡ length (text (shown l)) → m ≡ over out 0 (text (shown l)) → outcome (Ok n) m ≡ report l out
   unfolding report reported
-  report-full e h p q = into-open l out reported e (pick-false _ _ _ _ (le-ltb (length out) least_output h) (told (ap Done p) q))
+  report-full e h p q = into-open l out reported e (pick-false _ _ _ _ (le-ltb (length out) least_output h) (told (ap Ok p) q))
 
 -- ---- one possible outcome, of each call
 
@@ -133,24 +134,16 @@ one-remove n l = one-outcome (remove n l)
 pub one-unlink-byte : (start : ℕ) (path : List ℕ) (byte opens : ℕ) (l : List ℕ) → OneOutcome (unlink_byte start path byte opens l)
 one-unlink-byte start path byte opens l = one-outcome (unlink_byte start path byte opens l)
 
--- ---- what a byte expects
-
-pub is-wanted : (want : Expected) {b n : ℕ} → b ≡ n → Known want ≡ wanted_of n → Known want ≡ wanted_of b
-is-wanted want e h = rw e h
-
-pub not-wanted : (b : ℕ) → (b ≡ 0 → ⊥) → (b ≡ 1 → ⊥) → (b ≡ 2 → ⊥) → Unknown ≡ wanted_of b
-unfolding wanted_of pick
-not-wanted b p q r = rw (ne_eqb b 0 p, ne_eqb b 1 q, ne_eqb b 2 r)
+-- ---- a kind that is expected as a byte
 
 -- a byte that says nothing is refused, and the memory stays; one that says something is unlink's
 module _ (start : ℕ) (path : List ℕ) (byte opens : ℕ) (l : List ℕ) where
   abbrev wanted : Step
   wanted = unlink_wanted start path byte opens (shown l)
 
-  pub wanted-unknown : (w : Wanted) → tag_of WantedType.the_type w ≡ 1 → w ≡ wanted_of byte → laid (shown l) ≡ l → (Refused InvalidArgument ≡ wanted.answer) × (l ≡ laid wanted.after)
-  wanted-unknown (Known want) t e h = absurd (omega arith)
-  wanted-unknown Unknown t e h = rw (← e) (refl, sym h)
+  pub wanted-unknown : {e : Error} → MeansExpected byte (Err e) → laid (shown l) ≡ l → (Err e ≡ wanted.answer) × (l ≡ laid wanted.after)
+  wanted-unknown h k = let n = or-refused (wanted_of byte) InvalidArgument h in rw (n.0, n.1) (refl, sym k)
 
-  pub wanted-known : {w : Wanted} {want : Expected} {r : Answer} {m : List ℕ} → w ≡ wanted_of byte → w ≡ Known want
+  pub wanted-known : {want : Expected} {r : Answer} {m : List ℕ} → MeansExpected byte (Ok want)
       → (r ≡ (name_step (Unlinking.unlink start path want opens) (shown l)).answer) × (m ≡ laid (name_step (Unlinking.unlink start path want opens) (shown l)).after) → (r ≡ wanted.answer) × (m ≡ laid wanted.after)
-  wanted-known e k h = rw (← e, k) h
+  wanted-known k h = rw (or-given (wanted_of byte) InvalidArgument k) h

@@ -1,12 +1,13 @@
 -- Soundness is kept: what a call leaves of a sound volume is sound again, so that the next call is not refused with 1.
 -- Assumes nothing.
+use Rattle.std.specs.Prelude.{Option, Some, None}
 use Prim.Native.Nat.{ℕ}
 use mathlib.Core.List.{List}
 use Rattle.words.specs.Bytes.{Bytes}
 use Rattle.words.specs.Rules.{pick}
 use Rattle.words.specs.Tables.{Each}
 use Rattle.types.specs.declared.Expected.{Expected}
-use Rattle.types.specs.declared.Limit.{Limit}
+use Rattle.types.specs.Nodes.{Limit}
 use Rattle.allocator.proofs.Sizes.{size-cases}
 use Rattle.volume.specs.Volume.{Names, Store, Volume, shown, laid, with_allocator, on_store}
 use Rattle.volume.specs.Steps.{Step, stays, NamesStep, name_step}
@@ -30,9 +31,8 @@ use Rattle.names.proofs.Linked.{link-kept, link-owned}
 use Rattle.names.proofs.Unlinked.{unlink-kept, unlink-owned}
 use Rattle.names.proofs.Removed.{remove-kept}
 use Rattle.types.specs.declared.Error.TheVariants.{InvalidArgument}
-use Rattle.lentilraft.specs.declared.naming.Wanted.{Wanted}
-use Rattle.lentilraft.specs.declared.naming.Wanted.TheVariants.{Known, Unknown}
-use Rattle.lentilraft.specs.Door.{if_sound, door, chunk_size_set, set_chunk_size, set_limit, resize, write, create, link, unlink, wanted_of, on_wanted, unlink_wanted, unlink_byte, remove}
+use Rattle.types.specs.Kinds.{wanted_of}
+use Rattle.lentilraft.specs.Door.{if_sound, door, chunk_size_set, set_chunk_size, set_limit, resize, write, create, link, unlink, on_wanted, unlink_wanted, unlink_byte, remove}
 
 -- a volume that fits and is good is sound when it is laid out
 pub laid-sound : (v : Volume) → Fits v → Good v → Sound (laid v)
@@ -101,12 +101,12 @@ unlink-byte-sound start path byte opens l b h = door-sound (unlink_wanted start 
     keeps : (v : Volume) → Fits v → Good v → Fits (unlink_wanted start path byte opens v).after × Good (unlink_wanted start path byte opens v).after
     keeps v f g = go (wanted_of byte)
       where
-        result : Wanted → Step
+        result : Option Expected → Step
         result w = on_wanted (stays InvalidArgument v) (λ want. name_step (Unlinking.unlink start path want opens) v) w
 
-        go : (w : Wanted) → Fits (result w).after × Good (result w).after
-        go Unknown = (f, g)
-        go (Known want) = name-kept (Unlinking.unlink start path want opens) (unlink-kept start path want opens) (unlink-owned start path want opens) v f g
+        go : (w : Option Expected) → Fits (result w).after × Good (result w).after
+        go None = (f, g)
+        go (Some want) = name-kept (Unlinking.unlink start path want opens) (unlink-kept start path want opens) (unlink-owned start path want opens) v f g
 
 pub remove-sound : (n : ℕ) (l : List ℕ) → Bytes l → Sound l → Sound (remove n l).bytes
 unfolding remove

@@ -1,5 +1,6 @@
 -- Every refusal of a call leaves the bytes lent as they were, whatever it is refused for: one law of each door, and an instance a call.
 -- Assumes nothing.
+use Rattle.std.specs.Prelude.{Option, Some, None, Err}
 use mathlib.Core.Path.{◌≡◌, refl, ap, ◌∙◌}
 use mathlib.Core.Bool.{Bool, true, false}
 use mathlib.Core.List.{List}
@@ -11,12 +12,11 @@ use Rattle.words.specs.Bytes.{Bytes, over}
 use Rattle.words.specs.Rules.{pick}
 use Rattle.types.specs.Answers.{value}
 use Rattle.types.specs.Outcomes.{Outcome, refused, done}
-use Rattle.types.specs.declared.Answer.{Answer}
-use Rattle.types.specs.declared.Answer.TheVariants.{Refused}
+use Rattle.types.specs.Answers.{Answer}
 use Rattle.types.specs.declared.Error.{Error}
 use Rattle.types.specs.declared.Error.TheVariants.{InvalidArgument, OutputTooShort}
 use Rattle.types.specs.declared.Expected.{Expected}
-use Rattle.types.specs.declared.Limit.{Limit}
+use Rattle.types.specs.Nodes.{Limit}
 use Rattle.allocator.specs.Sizes.{accepted_size}
 use Rattle.allocator.proofs.Sizes.{size-cases}
 use Rattle.volume.specs.Volume.{Names, Volume, shown, laid, with_allocator, on_store}
@@ -40,21 +40,20 @@ use Rattle.names.proofs.Created.{create-leaves}
 use Rattle.names.proofs.Linked.{link-leaves}
 use Rattle.names.proofs.Unlinked.{unlink-refused}
 use Rattle.names.proofs.Removed.{remove-refused}
-use Rattle.lentilraft.specs.declared.naming.Wanted.{Wanted}
-use Rattle.lentilraft.specs.declared.naming.Wanted.TheVariants.{Known, Unknown}
-use Rattle.lentilraft.specs.Door.{door, door_into, chunk_size_set, set_chunk_size, set_limit, resize, write, read, create, link, unlink, wanted_of, on_wanted, unlink_wanted, unlink_byte, remove}
+use Rattle.types.specs.Kinds.{wanted_of}
+use Rattle.lentilraft.specs.Door.{door, door_into, chunk_size_set, set_chunk_size, set_limit, resize, write, read, create, link, unlink, on_wanted, unlink_wanted, unlink_byte, remove}
 use Rattle.lentilraft.specs.Report.{text, least_output, reported, report}
 use Rattle.lentilraft.specs.Refusal.{RefusalLeaves}
 use Rattle.lentilraft.proofs.Door.{either_way}
 
 -- an answer that is a refusal tells 0
-told-nothing : (a : Answer) {e : Error} → a ≡ Refused e → value a ≡ 0
+told-nothing : (a : Answer) {e : Error} → a ≡ Err e → value a ≡ 0
 told-nothing a q = ap value q
 
 -- ---- the two doors
 
 -- a call that changes the volume
-pub door-refusal : (call : Volume → Step) → ((v : Volume) → Good v → (e : Error) → (call v).answer ≡ Refused e → (call v).after ≡ v) → (l : List ℕ) → Bytes l → RefusalLeaves (door l call) l
+pub door-refusal : (call : Volume → Step) → ((v : Volume) → Good v → (e : Error) → (call v).answer ≡ Err e → (call v).after ≡ v) → (l : List ℕ) → Bytes l → RefusalLeaves (door l call) l
 unfolding door
 door-refusal call leaves l b =
     either_way l _ _ (λ o. RefusalLeaves o l) (λ h e q. (told-nothing (call (shown l)).answer q, ap laid (leaves (shown l) h.good e q) ∙ (framed-formed l b h.framed).same)) (λ e q. (refl, refl))
@@ -73,7 +72,7 @@ new-volume-refusal n e c s l x = go (placed n e c (length l)) (accepted_size s)
     result : Bool → Bool → Outcome
     result a b = pick a (pick b (done 0 (fresh_laid n e c s (length l))) (refused InvalidArgument l)) (refused InvalidArgument l)
 
-    go : (a b : Bool) → (result a b).answer ≡ Refused x → (value (result a b).answer ≡ 0) × ((result a b).bytes ≡ l)
+    go : (a b : Bool) → (result a b).answer ≡ Err x → (value (result a b).answer ≡ 0) × ((result a b).bytes ≡ l)
     go true true q = let z : ◌≡◌ {A = ℕ} 0 1 = cc in absurd (omega arith)
     go true false q = (refl, refl)
     go false b q = (refl, refl)
@@ -82,9 +81,9 @@ pub set-chunk-size-refusal : (s : ℕ) (l : List ℕ) → Bytes l → RefusalLea
 unfolding set_chunk_size
 set-chunk-size-refusal s = door-refusal (chunk_size_set s) leaves
   where
-    leaves : (v : Volume) → Good v → (e : Error) → (chunk_size_set s v).answer ≡ Refused e → (chunk_size_set s v).after ≡ v
+    leaves : (v : Volume) → Good v → (e : Error) → (chunk_size_set s v).answer ≡ Err e → (chunk_size_set s v).after ≡ v
     leaves v g e = unfold chunk_size_set in
-        size-cases (λ t. t.answer ≡ Refused e → on_store (with_allocator t.after) v ≡ v) s v.store.allocator (λ d q. refl) (λ q. refl) (λ a z q. let x : ◌≡◌ {A = ℕ} 0 1 = cc in absurd (omega arith))
+        size-cases (λ t. t.answer ≡ Err e → on_store (with_allocator t.after) v ≡ v) s v.store.allocator (λ d q. refl) (λ q. refl) (λ a z q. let x : ◌≡◌ {A = ℕ} 0 1 = cc in absurd (omega arith))
 
 pub set-limit-refusal : (n : ℕ) (m : Limit) (l : List ℕ) → Bytes l → RefusalLeaves (set_limit n m l) l
 unfolding set_limit
@@ -105,7 +104,7 @@ read-refusal n offset = into-refusal (Read.read n offset) leaves
     leaves : (v : Volume) (buffer : List ℕ) → RefusalLeaves (Read.read n offset v buffer) buffer
     leaves v buffer e = unfold Read.read in go (Read.read n offset v buffer) (on-file n v.names (λ x. refused x buffer) (Read.read_file v offset buffer))
       where
-        go : (o : Outcome) → OnFile Outcome n v.names (λ x. refused x buffer) (Read.read_file v offset buffer) o → o.answer ≡ Refused e → (value o.answer ≡ 0) × (o.bytes ≡ buffer)
+        go : (o : Outcome) → OnFile Outcome n v.names (λ x. refused x buffer) (Read.read_file v offset buffer) o → o.answer ≡ Err e → (value o.answer ≡ 0) × (o.bytes ≡ buffer)
         go o (stops x) q = (refl, refl)
         go o (goes_on r a b c) q = unfold Read.read_file in let z : ◌≡◌ {A = ℕ} 0 1 = cc in absurd (omega arith)
 
@@ -116,7 +115,7 @@ reported-leaves v out e = go (ltb (length out) least_output)
     result : Bool → Outcome
     result t = pick t (refused OutputTooShort out) (done (length (text v)) (over out 0 (text v)))
 
-    go : (t : Bool) → (result t).answer ≡ Refused e → (value (result t).answer ≡ 0) × ((result t).bytes ≡ out)
+    go : (t : Bool) → (result t).answer ≡ Err e → (value (result t).answer ≡ 0) × ((result t).bytes ≡ out)
     go true q = (refl, refl)
     go false q = let z : ◌≡◌ {A = ℕ} 0 1 = cc in absurd (omega arith)
 
@@ -127,7 +126,7 @@ report-refusal = into-refusal reported reported-leaves
 -- ---- the calls on names
 
 -- a step that leaves the names leaves the volume
-name-leaves : (call : Names → NamesStep) → ((a : Names) → Named a → (e : Error) → (call a).answer ≡ Refused e → (call a).after ≡ a) → (v : Volume) → Good v → (e : Error) → (name_step call v).answer ≡ Refused e → (name_step call v).after ≡ v
+name-leaves : (call : Names → NamesStep) → ((a : Names) → Named a → (e : Error) → (call a).answer ≡ Err e → (call a).after ≡ a) → (v : Volume) → Good v → (e : Error) → (name_step call v).answer ≡ Err e → (name_step call v).after ≡ v
 name-leaves call leaves v g e q = rw (leaves v.names g.named e q)
 
 pub create-refusal : (p : ℕ) (name : List ℕ) (byte : ℕ) (l : List ℕ) → Bytes l → RefusalLeaves (create p name byte l) l
@@ -146,15 +145,15 @@ pub unlink-byte-refusal : (start : ℕ) (path : List ℕ) (byte opens : ℕ) (l 
 unfolding unlink_byte
 unlink-byte-refusal start path byte opens = door-refusal (unlink_wanted start path byte opens) leaves
   where
-    leaves : (v : Volume) → Good v → (e : Error) → (unlink_wanted start path byte opens v).answer ≡ Refused e → (unlink_wanted start path byte opens v).after ≡ v
+    leaves : (v : Volume) → Good v → (e : Error) → (unlink_wanted start path byte opens v).answer ≡ Err e → (unlink_wanted start path byte opens v).after ≡ v
     leaves v g e = go (wanted_of byte)
       where
-        result : Wanted → Step
+        result : Option Expected → Step
         result w = on_wanted (stays InvalidArgument v) (λ want. name_step (Unlinking.unlink start path want opens) v) w
 
-        go : (w : Wanted) → (result w).answer ≡ Refused e → (result w).after ≡ v
-        go Unknown q = refl
-        go (Known want) q = name-leaves (Unlinking.unlink start path want opens) (λ a h x. unlink-refused start path want opens a x h) v g e q
+        go : (w : Option Expected) → (result w).answer ≡ Err e → (result w).after ≡ v
+        go None q = refl
+        go (Some want) q = name-leaves (Unlinking.unlink start path want opens) (λ a h x. unlink-refused start path want opens a x h) v g e q
 
 pub remove-refusal : (n : ℕ) (l : List ℕ) → Bytes l → RefusalLeaves (remove n l) l
 unfolding remove

@@ -1,6 +1,7 @@
 -- Shortening a file is never refused for want of room. Of any memory resize gives 0, 1, 2, 3 or 5; and in a sound one a file is cut to every
 -- size that it has reached.
 -- Assumes nothing.
+use Rattle.std.specs.Prelude.{Ok}
 use mathlib.Core.Path.{◌≡◌, refl, sym, ap, ◌∙◌}
 use mathlib.Core.Bool.{Bool, true, false}
 use mathlib.Core.Logic.{◌⊎◌, inl, inr}
@@ -14,7 +15,6 @@ use Rattle.words.specs.Rules.{pick}
 use Rattle.types.specs.Answers.{number}
 use Rattle.types.specs.Nodes.{is_directory, file_limit}
 use Rattle.types.specs.Outcomes.{Outcome}
-use Rattle.types.specs.declared.Answer.TheVariants.{Done}
 use Rattle.types.specs.declared.Error.TheVariants.{IsDirectory, FileTooLarge}
 use Rattle.types.specs.declared.FileType.TheVariants.{Directory}
 use Rattle.types.specs.declared.NodeRecord.{NodeRecord}
@@ -65,7 +65,7 @@ never-cramped n z l e = go _ (resize-number n z l) e
 -- ---- a file can always be shortened
 
 module _ (n z : ℕ) (r : NodeRecord) (file : r.kind ≡ Directory → ⊥) (less : z ≤ r.size) where
-  step-shortens : (v : Volume) → Good v → node n v.names ≡ some r → (Resize.resize n z v).answer ≡ Done 0
+  step-shortens : (v : Volume) → Good v → node n v.names ≡ some r → (Resize.resize n z v).answer ≡ Ok 0
   step-shortens v g there = go (dec_lt z r.size)
     where
       good : NodeGood v.names.entries r
@@ -74,10 +74,10 @@ module _ (n z : ℕ) (r : NodeRecord) (file : r.kind ≡ Directory → ⊥) (les
       passes : Accepts n z v r
       passes = record { there = there; file = file; within = omega (arith, good.size) }
 
-      go : Dec (z < r.size) → (Resize.resize n z v).answer ≡ Done 0
+      go : Dec (z < r.size) → (Resize.resize n z v).answer ≡ Ok 0
       go (yes h) = ap (λ s. s.answer) (resize-cuts n z v r passes h)
       go (no h) = ap (λ s. s.answer) (resize-grows n z v r passes (omega arith))
 
-  pub shortens : (l : List ℕ) → Sound l → node n (shown l).names ≡ some r → (resize n z l).answer ≡ Done 0
+  pub shortens : (l : List ℕ) → Sound l → node n (shown l).names ≡ some r → (resize n z l).answer ≡ Ok 0
   unfolding resize door
   shortens l h there = sym (ap (λ (o : Outcome). o.answer) (let-in l _ _ (true-sound l h) refl)) ∙ step-shortens (shown l) h.good there

@@ -1,17 +1,15 @@
 -- Believed: every public call on a volume: 1 unless the memory is sound; then what the call makes of the volume, laid out again. A call that
 -- refuses leaves the volume as it was.
 -- Assumes nothing.
-use Rattle.std.specs.Prelude.{ℕ, List, eqb}
+use Rattle.std.specs.Prelude.{ℕ, List, Option, Result, Some, None, Ok, Err}
 use Rattle.words.specs.Rules.{pick}
 use Rattle.types.specs.declared.Expected.{Expected}
-use Rattle.types.specs.declared.Expected.TheVariants as expected
-use Rattle.types.specs.declared.Limit.{Limit}
-use Rattle.types.specs.declared.Answer.{Answer}
-use Rattle.types.specs.declared.Answer.TheVariants.{Done, Refused}
+use Rattle.types.specs.Kinds.{wanted_of}
+use Rattle.types.specs.Nodes.{Limit}
+use Rattle.types.specs.Answers.{Answer}
 use Rattle.types.specs.declared.Error.{Error}
 use Rattle.types.specs.declared.Error.TheVariants.{UnsoundMemory, InvalidArgument}
 use Rattle.types.specs.declared.Search.{Search}
-use Rattle.types.specs.declared.Search.TheVariants as told
 use Rattle.types.specs.Outcomes.{Outcome, outcome, refused}
 use Rattle.allocator.specs.Allocator as Allocator
 use Rattle.volume.specs.Volume.{Volume, shown, laid, with_allocator, on_store}
@@ -26,8 +24,6 @@ use Rattle.names.specs.Searching as Searching
 use Rattle.names.specs.Entering as Entering
 use Rattle.names.specs.Unlinking as Unlinking
 use Rattle.names.specs.Removing as Removing
-use Rattle.lentilraft.specs.declared.naming.Wanted.{Wanted}
-use Rattle.lentilraft.specs.declared.naming.Wanted.TheVariants.{Known, Unknown}
 use Rattle.lentilraft.specs.SoundTest.{is_sound}
 
 -- 1 first: a memory that is not sound is refused, whatever a call answers with
@@ -46,7 +42,7 @@ door_into l buffer call = if_sound l (λ e. refused e buffer) (λ v. call v buff
 
 -- 1, or nothing to tell
 unfoldable pub check : List ℕ → Answer
-check l = if_sound l (λ e. Refused e) (λ v. Done 0)
+check l = if_sound l (λ e. Err e) (λ v. Ok 0)
 
 unfoldable pub chunk_size_set : ℕ → Volume → Step
 chunk_size_set s v = record { answer = (Allocator.set_chunk_size s v.store.allocator).answer; after = on_store (with_allocator (Allocator.set_chunk_size s v.store.allocator).after) v }
@@ -69,13 +65,13 @@ read n offset l buffer = door_into l buffer (Read.read n offset)
 -- ---- the calls on names
 
 unfoldable pub find_node : ℕ → List ℕ → List ℕ → Answer
-find_node start path l = if_sound l (λ e. Refused e) (λ v. Walks.find_node start path v.names)
+find_node start path l = if_sound l (λ e. Err e) (λ v. Walks.find_node start path v.names)
 
 unfoldable pub next_entry : ℕ → ℕ → List ℕ → Listing.Listed
 next_entry d from l = if_sound l (λ e. Listing.unlisted e) (λ v. Listing.next_entry d from v.names)
 
-unfoldable pub search : ℕ → List ℕ → ℕ → ℕ → List ℕ → Search
-search d name from most l = if_sound l (λ e. told.Refused e) (λ v. Searching.search d name from most v.names)
+unfoldable pub search : ℕ → List ℕ → ℕ → ℕ → List ℕ → Result Search Error
+search d name from most l = if_sound l (λ e. Err e) (λ v. Searching.search d name from most v.names)
 
 unfoldable pub create : ℕ → List ℕ → ℕ → List ℕ → Outcome
 create p name byte l = door l (name_step (Entering.create p name byte))
@@ -86,13 +82,10 @@ link p name target l = door l (name_step (Entering.link p name target))
 unfoldable pub unlink : ℕ → List ℕ → Expected → ℕ → List ℕ → Outcome
 unlink start path want opens l = door l (name_step (Unlinking.unlink start path want opens))
 
--- what a byte expects: 0 any kind, 1 a directory, 2 a file
-unfoldable pub wanted_of : ℕ → Wanted
-wanted_of b = pick (eqb b 0) (Known expected.Any) (pick (eqb b 1) (Known expected.Directory) (pick (eqb b 2) (Known expected.File) Unknown))
-
-abbrev pub on_wanted : {A : Type 0} → A → (Expected → A) → Wanted → A
-on_wanted unknown call (Known want) = call want
-on_wanted unknown call Unknown = unknown
+-- a byte that says what to expect, or nothing
+abbrev pub on_wanted : {A : Type 0} → A → (Expected → A) → Option Expected → A
+on_wanted unknown call (Some want) = call want
+on_wanted unknown call None = unknown
 
 abbrev pub unlink_wanted : ℕ → List ℕ → ℕ → ℕ → Volume → Step
 unlink_wanted start path byte opens v = on_wanted (stays InvalidArgument v) (λ want. name_step (Unlinking.unlink start path want opens) v) (wanted_of byte)

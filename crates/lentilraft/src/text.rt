@@ -1,11 +1,9 @@
 // The report's text: lines `key=value`, in decimal.
 ghost use Rattle.std.specs.Prelude.{◌≡◌, ◌+◌, ◌≤◌, ◌<◌, length};
 ghost use Rattle.words.specs.Bytes.{over};
-ghost use Rattle.volume.specs.Volume.{shown};
-ghost use Rattle.tables.specs.Tables.{Ready};
 ghost use Rattle.lentilraft.specs.Report.{digits, width, decimal, line, size_lines, row_lines, next_lines, text};
 
-use volume::Layout;
+use tables::Tables;
 
 const BASE: u64 = 10;
 
@@ -50,7 +48,7 @@ fn put_line(out: &mut [u8], at: usize, key: &[u8], n: u64) -> usize
     let k = places(n);
     words::copy(out, at, key);
     put_digits(out, start, k, n);
-    words::put8(out, start + k, NEWLINE);
+    words::put::<1>(out, start + k, NEWLINE);
     start + k + 1
 }
 
@@ -85,23 +83,23 @@ fn put_next(out: &mut [u8], at: usize, free: u64, pointer: u64, node: u64) -> us
 }
 
 // Puts the whole text at the front of out, and answers its length.
-pub fn put_text(volume: &[u8], layout: Layout, out: &mut [u8]) -> usize
-    requires { Ready volume.now layout × (512 ≤ length out.old) }
-    ensures { (result ≡ length (text (shown volume.now))) × (result ≤ 512) × (out.new ≡ over out.old 0 (text (shown volume.now))) }
+pub fn put_text(tables: &Tables, out: &mut [u8]) -> usize
+    requires { 512 ≤ length out.old }
+    ensures { (result ≡ length (text tables.now)) × (result ≤ 512) × (out.new ≡ over out.old 0 (text tables.now)) }
 {
-    let rows = put_sizes(out, tables::chunk_size(volume, layout));
+    let rows = put_sizes(out, tables.chunk_size());
     let next = put_rows(
         out,
         rows,
-        tables::nodes_used(volume, layout) as u64,
-        tables::entries_used(volume, layout) as u64,
-        tables::chunks_used(volume, layout) as u64,
+        tables.nodes_used() as u64,
+        tables.entries_used() as u64,
+        tables.chunks_used() as u64,
     );
     put_next(
         out,
         next,
-        tables::free_count(volume, layout),
-        tables::max_ptr(volume, layout),
-        tables::next_node(volume, layout),
+        tables.free_count(),
+        tables.max_ptr(),
+        tables.next_node(),
     )
 }

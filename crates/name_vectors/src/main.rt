@@ -1,13 +1,15 @@
 // Replays runs of calls on names and files from the standard input, each on a new volume, and prints what each call answers.
-// oracle/README.md tells what each line means. Of a call's numbers, node is also a parent, a directory or a start; place an offset, a size, a limit,
-// a type, a target, an open count, an index, a chunk size, or where a poke goes; length that of the buffer, or of the name, path or poke behind
-// the numbers, and 1 where there is to be a limit; seed also what unlink expects, and how many entries a search may look at.
+// oracle/README.md tells what each line means. Of a call's numbers, node is also a parent, a directory or a start; place an offset, a
+// size, a limit, a type, a target, an open count, an index, a chunk size, or where a poke goes; length that of the buffer, or of the name,
+// path or poke behind the numbers, and 1 where there is to be a limit; seed also what unlink expects, and how many entries a search may
+// look at.
 #![tactic(auto)]
 
-ghost use Rattle.std.specs.Prelude.{◌≡◌, true, ◌+◌, ◌≤◌, min, length};
+ghost use Rattle.std.specs.Prelude.{◌≡◌, true, ◌+◌, ◌≤◌, ◌<◌, length, IsSome};
 
-use types::{Answer, Expected, Limit};
-use vectors::{Call, STDIN_FILENO, STDOUT_FILENO};
+use std::io;
+use types::{Error, Expected, Search};
+use vectors::{BUFFER, Call, MEMORY, Numbers};
 
 // What a line starts with. Any other number ends the text.
 const VOLUME: u64 = 1;
@@ -42,205 +44,185 @@ const SUM: u64 = 15;
 
 const SEARCH: u64 = 16;
 
-// The numbers of a new volume: the rooms of its three tables, and the chunk size.
-const FIELDS: usize = 4;
-
 // What unlink is told to expect. Any other number stands for anything.
 const DIRECTORY: u64 = 1;
 
 const FILE: u64 = 2;
 
-// Numbers that a u8 and a u32 have room for.
-const BYTES: u64 = 256;
-
-const INDEXES: u64 = 4_294_967_296;
-
-fn main() {
-    let mut text = vectors::blank();
-    let n = io::read_full(STDIN_FILENO, &mut text);
-    let mut memory = vectors::blank_memory();
-    let mut buffer = vectors::blank_buffer();
-    replay(&text[..n], &mut memory, &mut buffer);
+// Which call a line is. A sum is none: it tells all bytes of the volume.
+#[derive(Clone, Copy)]
+enum Kind {
+    Read,
+    Write,
+    Resize,
+    SetLimit,
+    Create,
+    Link,
+    Unlink,
+    Remove,
+    Find,
+    NextEntry,
+    SetChunkSize,
+    Report,
+    Poke,
+    Sum,
+    Search,
 }
 
-fn replay(text: &[u8], memory: &mut [u8], buffer: &mut [u8]) {
-    let mut at = 0;
-    while at < text.len() {
-        at = run(text, at, memory, buffer);
+fn main(rt: HostRuntime) -> io::Result<()> {
+    let text = vectors::read_text(&rt)?;
+    let mut memory = vec![in rt.alloc(); 0; MEMORY]?;
+    let mut buffer = vec![in rt.alloc(); 0; BUFFER]?;
+    replay(&rt, &mut Numbers::new(&text), &mut memory, &mut buffer)
+}
+
+// The runs up to a line that begins none, each with a volume that is lent as many bytes as it has.
+fn replay(
+    rt: &impl Print,
+    numbers: &mut Numbers<'_>,
+    memory: &mut [u8],
+    buffer: &mut [u8],
+) -> io::Result<()> {
+    while numbers.number() == VOLUME {
+        let length = numbers.number() as usize;
+        let Some(volume) = memory.get_mut(..length) else {
+            return println!(rt; "outside");
+        };
+        replay_run(rt, numbers, volume, buffer)?;
     }
+    Ok(())
 }
 
-// The run at index at: a volume, lent as many bytes as it has, and its calls. Any other line ends the text.
-fn run(text: &[u8], at: usize, memory: &mut [u8], buffer: &mut [u8]) -> usize
-    ensures { (min (at + 1) (length text.now) ≤ result) × (result ≤ length text.now) }
+// A run from the numbers of its new volume on, up to the next line that is no call.
+fn replay_run(
+    rt: &impl Print,
+    numbers: &mut Numbers<'_>,
+    volume: &mut [u8],
+    buffer: &mut [u8],
+) -> io::Result<()>
+    ensures { length numbers.new ≤ length numbers.old }
 {
-    let first = vectors::number(text, at);
-    if first.value != VOLUME {
-        return text.len();
+    let [nodes, entries, chunks, size] = numbers.numbers::<4>();
+    let answer = volume::new_volume(volume, nodes, entries, chunks, size);
+    println!(rt; "volume {}", types::number(answer))?;
+    while let Some((kind, call)) = read_call(numbers) {
+        match buffer.get_mut(..call.length as usize) {
+            Some(buffer) => {
+                load(numbers, kind, call, buffer);
+                carry_out(rt, volume, kind, call, buffer)?;
+            }
+            None => println!(rt; "outside")?,
+        }
     }
-    let length = vectors::number(text, first.next);
-    let n = length.value as usize;
-    if memory.len() < n {
-        io::write_all(STDOUT_FILENO, b"outside\n");
-        return text.len();
-    }
-    calls(text, length.next, &mut memory[..n], buffer)
+    Ok(())
 }
 
-// The run from its rooms on, up to the next line that is no call.
-fn calls(text: &[u8], at: usize, volume: &mut [u8], buffer: &mut [u8]) -> usize
-    requires { at ≤ length text.now }
-    ensures { (at ≤ result) × (result ≤ length text.now) }
+// The next call, if the next line is one.
+fn read_call(numbers: &mut Numbers<'_>) -> Option<(Kind, Call)>
+    ensures within { length numbers.new ≤ length numbers.old }
+    ensures shorter { IsSome result → length numbers.new < length numbers.old }
 {
-    let mut next = make(text, at, volume);
-    while has_call(text, next) {
-        next = replay_call(text, next, volume, buffer);
-    }
-    next
+    let kind = kind_of(numbers.peek())?;
+    Some((kind, Call::read(numbers)))
 }
 
-// A new volume. Answers where the first call starts.
-fn make(text: &[u8], at: usize, volume: &mut [u8]) -> usize
-    requires { at ≤ length text.now }
-    ensures { (at ≤ result) × (result ≤ length text.now) }
+fn kind_of(name: u64) -> Option<Kind>
+    ensures { IsSome result → 0 < name }
 {
-    let mut fields = [0u64; FIELDS];
-    let next = vectors::numbers(text, at, &mut fields);
-    let answer = volume::new_volume(volume, fields[0], fields[1], fields[2], fields[3]);
-    io::write_all(STDOUT_FILENO, b"volume");
-    print_number(types::number(answer) as u64);
-    io::write_all(STDOUT_FILENO, b"\n");
-    next
-}
-
-fn has_call(text: &[u8], at: usize) -> bool
-    ensures { result ≡ true → at + 1 ≤ length text.now }
-{
-    if text.len() <= at {
-        return false;
-    }
-    let first = vectors::number(text, at);
-    READ <= first.value && first.value <= SEARCH
-}
-
-// The call at index at. Answers where the next one starts.
-fn replay_call(text: &[u8], at: usize, volume: &mut [u8], buffer: &mut [u8]) -> usize
-    requires { at + 1 ≤ length text.now }
-    ensures { (at + 1 ≤ result) × (result ≤ length text.now) }
-{
-    let call = vectors::read_call(text, at);
-    let n = call.length as usize;
-    if buffer.len() < n {
-        io::write_all(STDOUT_FILENO, b"outside\n");
-        return call.next;
-    }
-    load_and_carry_out(text, volume, call, &mut buffer[..n])
-}
-
-fn load_and_carry_out(text: &[u8], volume: &mut [u8], call: Call, buffer: &mut [u8]) -> usize
-    requires { call.next ≤ length text.now }
-    ensures { (call.next ≤ result) × (result ≤ length text.now) }
-{
-    let next = load(text, call, buffer);
-    carry_out(volume, call, buffer);
-    next
-}
-
-// A name, a path or a poke from the text, or bytes made of the seed: before a read or a report too, so that its sum shows what that leaves.
-// Answers the index behind them.
-fn load(text: &[u8], call: Call, buffer: &mut [u8]) -> usize
-    requires { call.next ≤ length text.now }
-    ensures { (call.next ≤ result) × (result ≤ length text.now) }
-{
-    if has_text(call.name) {
-        return vectors::bytes(text, call.next, buffer);
-    }
-    vectors::fill(buffer, call.seed);
-    call.next
-}
-
-// Whether a name, a path or a poke stands behind the numbers of a line.
-fn has_text(name: u64) -> bool {
     match name {
-        CREATE | LINK | UNLINK | FIND | POKE | SEARCH => true,
-        _ => false,
+        READ => Some(Kind::Read),
+        WRITE => Some(Kind::Write),
+        RESIZE => Some(Kind::Resize),
+        SET_LIMIT => Some(Kind::SetLimit),
+        CREATE => Some(Kind::Create),
+        LINK => Some(Kind::Link),
+        UNLINK => Some(Kind::Unlink),
+        REMOVE => Some(Kind::Remove),
+        FIND => Some(Kind::Find),
+        NEXT_ENTRY => Some(Kind::NextEntry),
+        SET_CHUNK_SIZE => Some(Kind::SetChunkSize),
+        REPORT => Some(Kind::Report),
+        POKE => Some(Kind::Poke),
+        SUM => Some(Kind::Sum),
+        SEARCH => Some(Kind::Search),
+        _ => None,
     }
 }
 
-fn carry_out(volume: &mut [u8], call: Call, buffer: &mut [u8]) {
-    tell(volume, call, buffer);
-    if gives_bytes(call.name) {
-        print_number(vectors::checksum(buffer));
-    }
-    io::write_all(STDOUT_FILENO, b"\n");
-}
-
-fn tell(volume: &mut [u8], call: Call, buffer: &mut [u8]) {
-    let name = call.name;
-    match name {
-        NEXT_ENTRY => list(volume, call),
-        SEARCH => search(volume, call, buffer),
-        SUM => print_sum(volume),
-        _ => print_answer(ask(volume, call, buffer)),
+// A name, a path or a poke from the text, or bytes made of the seed: before a read or a report too, so that its sum shows what that
+// leaves.
+fn load(numbers: &mut Numbers<'_>, kind: Kind, call: Call, buffer: &mut [u8])
+    ensures { length numbers.new ≤ length numbers.old }
+{
+    match kind {
+        Kind::Create | Kind::Link | Kind::Unlink | Kind::Find | Kind::Poke | Kind::Search =>
+            numbers.bytes(buffer),
+        _ => vectors::fill(buffer, call.seed),
     }
 }
 
-// Whether a call fills the buffer that it is lent.
-fn gives_bytes(name: u64) -> bool {
-    match name {
-        READ | REPORT => true,
-        _ => false,
+fn carry_out(
+    rt: &impl Print,
+    volume: &mut [u8],
+    kind: Kind,
+    call: Call,
+    buffer: &mut [u8],
+) -> io::Result<()> {
+    match kind {
+        Kind::NextEntry => print_entry(rt, volume, call)?,
+        Kind::Search => print_search(rt, search(volume, call, buffer))?,
+        Kind::Sum => print!(rt; "sum {}", vectors::checksum(volume))?,
+        _ => print_answer(rt, ask(volume, kind, call, buffer))?,
     }
+    if matches!(kind, Kind::Read | Kind::Report) {
+        print!(rt; " {}", vectors::checksum(buffer))?;
+    }
+    println!(rt; "")
 }
 
-fn ask(volume: &mut [u8], call: Call, buffer: &mut [u8]) -> Answer {
-    let name = call.name;
-    match name {
-        READ => lentilraft::read(volume, call.node, call.place, buffer),
-        WRITE => lentilraft::write(volume, call.node, call.place, buffer),
-        RESIZE => lentilraft::resize_file(volume, call.node, call.place),
-        SET_LIMIT => lentilraft::set_limit(volume, call.node, limit_of(call)),
-        SET_CHUNK_SIZE => lentilraft::set_chunk_size(volume, call.place),
-        REPORT => lentilraft::report(volume, buffer),
-        POKE => poke(volume, call.place as usize, buffer),
-        _ => ask_names(volume, call, buffer),
+fn ask(volume: &mut [u8], kind: Kind, call: Call, buffer: &mut [u8]) -> Result<u64, Error> {
+    match kind {
+        Kind::Read => lentilraft::read(volume, call.node, call.place, buffer),
+        Kind::Write => lentilraft::write(volume, call.node, call.place, buffer),
+        Kind::Resize => lentilraft::resize_file(volume, call.node, call.place),
+        Kind::SetLimit => lentilraft::set_limit(volume, call.node, limit_of(call)),
+        Kind::SetChunkSize => lentilraft::set_chunk_size(volume, call.place),
+        Kind::Report => lentilraft::report(volume, buffer),
+        Kind::Poke => poke(volume, call.place as usize, buffer),
+        _ => ask_names(volume, kind, call, buffer),
     }
-}
-
-// Puts bytes into the volume by no call, and asks check about it.
-fn poke(volume: &mut [u8], at: usize, bytes: &[u8]) -> Answer {
-    put_bytes(volume, at, bytes);
-    lentilraft::check(volume)
-}
-
-// Bytes that do not fit are dropped: what a program prints shows it.
-fn put_bytes(volume: &mut [u8], at: usize, bytes: &[u8]) {
-    if volume.len() < bytes.len() {
-        return;
-    }
-    if volume.len() - bytes.len() < at {
-        return;
-    }
-    words::copy(volume, at, bytes);
 }
 
 // The text is a name or a path.
-fn ask_names(volume: &mut [u8], call: Call, text: &[u8]) -> Answer {
-    let name = call.name;
-    match name {
-        CREATE => lentilraft::create(volume, call.node, text, (call.place % BYTES) as u8),
-        LINK => lentilraft::link(volume, call.node, text, call.place),
-        UNLINK => lentilraft::unlink(volume, call.node, text, expected(call.seed), call.place),
-        REMOVE => lentilraft::remove(volume, call.node),
+fn ask_names(volume: &mut [u8], kind: Kind, call: Call, text: &[u8]) -> Result<u64, Error> {
+    match kind {
+        Kind::Create => lentilraft::create(volume, call.node, text, (call.place & 0xff) as u8),
+        Kind::Link => lentilraft::link(volume, call.node, text, call.place),
+        Kind::Unlink => {
+            lentilraft::unlink(volume, call.node, text, expected(call.seed), call.place)
+        }
+        Kind::Remove => lentilraft::remove(volume, call.node),
         _ => lentilraft::find_node(volume, call.node, text),
     }
 }
 
-fn limit_of(call: Call) -> Limit {
-    if call.length == 0 {
-        return Limit::Unlimited;
+// Puts bytes into the volume by no call, and asks check about it. Bytes that do not fit are dropped: what a program prints shows it.
+fn poke(volume: &mut [u8], at: usize, bytes: &[u8]) -> Result<u64, Error> {
+    if has_room(volume, at, bytes.len()) {
+        words::copy(volume, at, bytes);
     }
-    Limit::AtMost(call.place)
+    lentilraft::check(volume)
+}
+
+// Whether n bytes fit from index at on.
+fn has_room(volume: &[u8], at: usize, n: usize) -> bool
+    ensures { result ≡ true → at + n ≤ length volume.now }
+{
+    at.checked_add(n).is_some_and(|end| end <= volume.len())
+}
+
+fn limit_of(call: Call) -> Option<u64> {
+    (call.length != 0).then_some(call.place)
 }
 
 fn expected(kind: u64) -> Expected {
@@ -251,54 +233,37 @@ fn expected(kind: u64) -> Expected {
     }
 }
 
+fn search(volume: &[u8], call: Call, name: &[u8]) -> Result<Search, Error> {
+    lentilraft::search(volume, call.node, name, index_of(call), call.seed)
+}
+
+fn index_of(call: Call) -> u32 {
+    (call.place & 0xffff_ffff) as u32
+}
+
+// What came of a search: found, absent or stopped; an index, a node, and how many entries were looked at.
+fn print_search(rt: &impl Print, search: Result<Search, Error>) -> io::Result<()> {
+    let told = vectors::search_numbers(search);
+    print!(rt;
+        "{} {} {} {} {}",
+        told.number, told.case, told.index, told.node, told.looked
+    )
+}
+
 // The next entry: its index, its node and the bytes of its name.
-fn list(volume: &[u8], call: Call) {
+fn print_entry(rt: &impl Print, volume: &[u8], call: Call) -> io::Result<()> {
     let mut number = 0;
     let mut index = 0;
     let mut node = 0;
     let from = index_of(call);
     let name = lentilraft::next_entry(volume, call.node, from, &mut number, &mut index, &mut node);
-    io::print_decimal(STDOUT_FILENO, number as u64);
-    print_number(index as u64);
-    print_number(node);
-    print_bytes(name);
-}
-
-// What came of a search: found, absent or stopped; an index, a node, and how many entries were looked at.
-fn search(volume: &[u8], call: Call, name: &[u8]) {
-    let search = lentilraft::search(volume, call.node, name, index_of(call), call.seed);
-    let told = vectors::search_numbers(search);
-    io::print_decimal(STDOUT_FILENO, told.number);
-    print_number(told.case);
-    print_number(told.index);
-    print_number(told.node);
-    print_number(told.looked);
-}
-
-fn index_of(call: Call) -> u32 {
-    (call.place % INDEXES) as u32
-}
-
-// All bytes of the volume, told by their sum.
-fn print_sum(volume: &[u8]) {
-    io::write_all(STDOUT_FILENO, b"sum");
-    print_number(vectors::checksum(volume));
-}
-
-fn print_bytes(bytes: &[u8]) {
-    let mut i = 0;
-    while i < bytes.len() {
-        print_number(words::get8(bytes, i));
-        i += 1;
+    print!(rt; "{number} {index} {node}")?;
+    for byte in name {
+        print!(rt; " {byte}")?;
     }
+    Ok(())
 }
 
-fn print_answer(answer: Answer) {
-    io::print_decimal(STDOUT_FILENO, types::number(answer) as u64);
-    print_number(types::value(answer));
-}
-
-fn print_number(n: u64) {
-    io::write_all(STDOUT_FILENO, b" ");
-    io::print_decimal(STDOUT_FILENO, n);
+fn print_answer(rt: &impl Print, answer: Result<u64, Error>) -> io::Result<()> {
+    print!(rt; "{} {}", types::number(answer), types::value(answer))
 }

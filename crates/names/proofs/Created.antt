@@ -1,5 +1,6 @@
 -- What create does: its refusals, which leave the names as they were, and the node and the entry that it makes.
 -- Assumes nothing.
+use Rattle.std.specs.Prelude.{Some, None, Err}
 use mathlib.Core.Path.{◌≡◌, refl, sym, ◌∙◌}
 use mathlib.Core.Bool.{Bool, true, false}
 use mathlib.Core.List.{List, [], ◌∷◌, ◌++◌, append-nil}
@@ -18,16 +19,13 @@ use Rattle.words.proofs.Counting.{bit-same, bit-apart, none_pass}
 use Rattle.words.proofs.Tables.{length-insert_at}
 use Rattle.words.proofs.Search.{find_none}
 use Rattle.words.proofs.FoundRows.{find-insert-other, find-insert-here}
-use Rattle.types.specs.declared.Answer.TheVariants.{Refused}
 use Rattle.types.specs.declared.Error.{Error}
 use Rattle.types.specs.declared.Error.TheVariants.{InvalidArgument}
 use Rattle.types.specs.declared.FileType.{FileType}
 use Rattle.types.specs.declared.NodeRecord.{NodeRecord}
 use Rattle.paths.specs.Path.{name_allowed}
 use Rattle.volume.specs.declared.ChunkRow.{ChunkRow}
-use Rattle.volume.specs.declared.kinds.Kind.{Kind}
-use Rattle.volume.specs.declared.kinds.Kind.TheVariants.{Known, Unknown}
-use Rattle.volume.specs.Kinds.{kind_of}
+use Rattle.types.specs.Kinds.{Kind, kind_of}
 use Rattle.volume.specs.Rows.{Entry}
 use Rattle.volume.specs.Volume.{Names, Store}
 use Rattle.volume.specs.Framed.{NamesFits}
@@ -50,7 +48,7 @@ use Rattle.names.specs.Enterable.{LinkedParent, Enterable}
 -- create is refused, or makes a node and an entry
 pub data Creates (p : ℕ) (name : List ℕ) (byte : ℕ) (a : Names) : NamesStep → Type 0 where
   refuses-create : (e : Error) → Creates p name byte a (remain e a)
-  creates : (r : NodeRecord) (kind : FileType) → LinkedParent p a r → Enterable p name a → kind_of byte ≡ Known kind → length a.nodes < a.node_room → (a.next_node ≡ most_node → ⊥)
+  creates : (r : NodeRecord) (kind : FileType) → LinkedParent p a r → Enterable p name a → kind_of byte ≡ Some kind → length a.nodes < a.node_room → (a.next_node ≡ most_node → ⊥)
       → Creates p name byte a (turn a.next_node (created p name kind a))
 
 -- nothing is used up
@@ -68,13 +66,13 @@ creates-view p name byte a = parents (create p name byte a) (on-parent p name a 
     call : FileType → NamesStep
     call kind = where_new p name (no_row_room a) a (turn a.next_node (created p name kind a))
 
-    places : (r : NodeRecord) → LinkedParent p a r → name_allowed name ≡ true → (kind : FileType) → kind_of byte ≡ Known kind → (s : NamesStep) → WhereNew p name (no_row_room a) a (turn a.next_node (created p name kind a)) s → Creates p name byte a s
+    places : (r : NodeRecord) → LinkedParent p a r → name_allowed name ≡ true → (kind : FileType) → kind_of byte ≡ Some kind → (s : NamesStep) → WhereNew p name (no_row_room a) a (turn a.next_node (created p name kind a)) s → Creates p name byte a s
     places r t n kind e s (no_place x) = refuses-create x
     places r t n kind e s (has-place w f i) = let l = room-left a f in creates r kind t (record { allowed = n; new = w; room = l.1; index = i }) e l.0 l.2
 
     kinds : (r : NodeRecord) → LinkedParent p a r → name_allowed name ≡ true → (k : Kind) → kind_of byte ≡ k → Creates p name byte a (on_kind (remain InvalidArgument a) call k)
-    kinds r t n (Known kind) e = places r t n kind e (call kind) (where-new p name (no_row_room a) a (turn a.next_node (created p name kind a)))
-    kinds r t n Unknown e = refuses-create InvalidArgument
+    kinds r t n (Some kind) e = places r t n kind e (call kind) (where-new p name (no_row_room a) a (turn a.next_node (created p name kind a)))
+    kinds r t n None e = refuses-create InvalidArgument
 
     parents : (s : NamesStep) → OnParent NamesStep p name a (λ e. remain e a) (on_kind (remain InvalidArgument a) call (kind_of byte)) s → Creates p name byte a s
     parents s (no-parent x) = refuses-create x
@@ -210,9 +208,9 @@ create-owned p name byte a s g o = go (create p name byte a) (creates-view p nam
     go z (creates r kind t w k more last) = created-owned p name kind a r t g s o
 
 -- a refusal leaves the names as they were
-pub create-leaves : (p : ℕ) (name : List ℕ) (byte : ℕ) (a : Names) (e : Error) → (create p name byte a).answer ≡ Refused e → (create p name byte a).after ≡ a
+pub create-leaves : (p : ℕ) (name : List ℕ) (byte : ℕ) (a : Names) (e : Error) → (create p name byte a).answer ≡ Err e → (create p name byte a).after ≡ a
 create-leaves p name byte a e = go (create p name byte a) (creates-view p name byte a)
   where
-    go : (s : NamesStep) → Creates p name byte a s → s.answer ≡ Refused e → s.after ≡ a
+    go : (s : NamesStep) → Creates p name byte a s → s.answer ≡ Err e → s.after ≡ a
     go s (refuses-create x) q = refl
-    go s (creates r kind t w k more last) q = let x : ◌≡◌ {A = ℕ} 0 1 = cc in absurd (omega arith)
+    go s (creates r kind t w k more last) q = absurd cc

@@ -1,6 +1,7 @@
 -- A path that means a directory, in find and unlink: 4 for a regular file, and for nothing else; any other node as if the path ended in its
 -- name. A slash behind a path that ends in a name makes such a path.
 -- Assumes nothing.
+use Rattle.std.specs.Prelude.{Ok, Err}
 use mathlib.Core.Path.{◌≡◌, refl, ap, ◌∙◌}
 use mathlib.Core.Bool.{Bool, true, false}
 use mathlib.Core.List.{List, [], ◌∷◌, ◌++◌}
@@ -13,7 +14,6 @@ use borrow.Author.Tests.{ne_eqb, ltb-true}
 use Rattle.words.specs.Rules.{pick, both, either, same}
 use Rattle.words.proofs.Joined.{both_true}
 use Rattle.types.specs.Sizes.{most_name, most_path}
-use Rattle.types.specs.declared.Answer.TheVariants.{Done, Refused}
 use Rattle.types.specs.declared.Error.TheVariants.{NoSuchEntry, NotDirectory, BadName}
 use Rattle.types.specs.declared.Expected.{Expected}
 use Rattle.types.specs.declared.FileType.{FileType}
@@ -40,8 +40,8 @@ module _ {start : ℕ} {path : List ℕ} {a : Names} {e : Entry} (l : Leads star
   part_left = go l.names l.walk
     where
       start-row : (o : Option NodeRecord) {n : ℕ} → on_start (stopped NoSuchEntry) (reached start none) o ≡ reached n (some e) → ⊥
-      start-row none z = let x : ◌≡◌ {A = ℕ} 0 1 = cc in omega arith
-      start-row (some r) z = let x : ◌≡◌ {A = ℕ} 0 1 = cc in omega arith
+      start-row none z = cc
+      start-row (some r) z = cc
 
       go : (ps : List (List ℕ)) {n : ℕ} → walk_from start a ps ≡ reached n (some e) → 0 < length ps
       go [] z = absurd (start-row (node start a) z)
@@ -58,13 +58,13 @@ module _ {start : ℕ} {path : List ℕ} {a : Names} {e : Entry} (l : Leads star
 
   -- ---- by how it ends
 
-  pub find-named : ends_open path ≡ false → find_node start path a ≡ Done l.found
+  pub find-named : ends_open path ≡ false → find_node start path a ≡ Ok l.found
   unfolding find_node on_cutting node_reached
   find-named h = rw (l.cut, path-named start path a l.names h, l.walk) refl
 
-  pub find-open : ends_open path ≡ true → find_node start path a ≡ on_passing Refused (Done l.found) (node l.found a)
+  pub find-open : ends_open path ≡ true → find_node start path a ≡ on_passing Err (Ok l.found) (node l.found a)
   unfolding find_node on_cutting node_reached
-  find-open h = rw (l.cut, path-judged start path a l.names h part_left l.walk) (passing-map node_reached stopped Refused (reached l.found (some e)) (λ x. refl) (node l.found a))
+  find-open h = rw (l.cut, path-judged start path a l.names h part_left l.walk) (passing-map node_reached stopped Err (reached l.found (some e)) (λ x. refl) (node l.found a))
 
   module _ (want : Expected) (opens : ℕ) where
     -- it has a part, so that 8 is not given
@@ -90,7 +90,7 @@ module _ {start : ℕ} {path : List ℕ} {a : Names} {e : Entry} (l : Leads star
 
 -- what is found by a path is found with a slash behind it, unless it is a regular file: then 4
 pub find-slashed : {start : ℕ} {path : List ℕ} {a : Names} {e : Entry} (l : Leads start path a e) → length path < most_path
-    → find_node start (path ++ (slash ∷ [])) a ≡ on_passing Refused (Done l.found) (node l.found a)
+    → find_node start (path ++ (slash ∷ [])) a ≡ on_passing Err (Ok l.found) (node l.found a)
 unfolding slashed-leads
 find-slashed {path = path} l h = find-open (slashed-leads l h) (ends-slashed path)
 
@@ -116,20 +116,20 @@ pub record MeansFile (start : ℕ) (path : List ℕ) (a : Names) : Type 0 where
   pub file : row.kind ≡ RegularFile
 
 -- then
-pub file-refused : {start : ℕ} {path : List ℕ} {a : Names} → MeansFile start path a → find_node start path a ≡ Refused NotDirectory
+pub file-refused : {start : ℕ} {path : List ℕ} {a : Names} → MeansFile start path a → find_node start path a ≡ Err NotDirectory
 unfolding find_node on_cutting node_reached on_passing pick
 file-refused {start} {path} {a} m = rw (m.cut, path-judged start path a m.names m.opened m.left m.walk, m.there, m.file) refl
 
 -- and only then: no walk is refused with 4
 walk-other : (es : List Entry) (ps : List (List ℕ)) (n : ℕ) (last : Option Entry) → walk_parts es n last ps ≡ stopped NotDirectory → ⊥
 unfolding walk_parts on_entry pick
-walk-other es [] n last z = let x : ◌≡◌ {A = ℕ} 0 1 = cc in omega arith
+walk-other es [] n last z = cc
 walk-other es (p ∷ ps) n last z = go (ltb most_name (length p)) (entry_named n p es) (λ e. walk-other es ps e.node (some e)) z
   where
     go : (b : Bool) (o : Option Entry) → ((e : Entry) → walk_parts es e.node (some e) ps ≡ stopped NotDirectory → ⊥)
         → pick b (stopped BadName) (on_entry (stopped NoSuchEntry) (λ e. walk_parts es e.node (some e) ps) o) ≡ stopped NotDirectory → ⊥
-    go true o on y = let x : ◌≡◌ {A = ℕ} 0 1 = cc in omega arith
-    go false none on y = let x : ◌≡◌ {A = ℕ} 0 1 = cc in omega arith
+    go true o on y = cc
+    go false none on y = cc
     go false (some e) on y = on e y
 
 from-other : (start : ℕ) (a : Names) (ps : List (List ℕ)) → walk_from start a ps ≡ stopped NotDirectory → ⊥
@@ -137,29 +137,29 @@ unfolding walk_from on_start
 from-other start a ps = go (node start a)
   where
     go : (o : Option NodeRecord) → on_start (stopped NoSuchEntry) (walk_parts a.entries start none ps) o ≡ stopped NotDirectory → ⊥
-    go none y = let x : ◌≡◌ {A = ℕ} 0 1 = cc in omega arith
+    go none y = cc
     go (some r) y = walk-other a.entries ps start none y
 
 module _ (start : ℕ) (path : List ℕ) (a : Names) where
   abbrev Four : Walk → Type 0
-  Four w = node_reached w ≡ Refused NotDirectory
+  Four w = node_reached w ≡ Err NotDirectory
 
   -- nor is what it came to
   plain : (ps : List (List ℕ)) (w : Walk) → walk_from start a ps ≡ w → Four w → ⊥
   unfolding node_reached
-  plain ps (reached n last) q z = let x : ◌≡◌ {A = ℕ} 0 1 = cc in omega arith
+  plain ps (reached n last) q z = cc
   plain ps (stopped e) q z = let x : e ≡ NotDirectory = cc in from-other start a ps (q ∙ ap stopped x)
 
   module _ (ps : List (List ℕ)) (c : cut_path path ≡ parts ps) where
     module _ (o : ends_open path ≡ true) (h : 0 < length ps) where
       of_row : (n : ℕ) (last : Option Entry) → walk_from start a ps ≡ reached n last → (r : Option NodeRecord) → node n a ≡ r → Four (on_passing stopped (reached n last) r) → MeansFile start path a
       unfolding node_reached on_passing pick
-      of_row n last q none t z = let x : ◌≡◌ {A = ℕ} 0 1 = cc in absurd (omega arith)
+      of_row n last q none t z = absurd cc
       of_row n last q (some r) t z = of-kind r.kind refl z
         where
           of-kind : (k : FileType) → r.kind ≡ k → Four (pick (passes_as_directory k) (reached n last) (stopped NotDirectory)) → MeansFile start path a
-          of-kind Directory f y = let x : ◌≡◌ {A = ℕ} 0 1 = cc in absurd (omega arith)
-          of-kind SymbolicLink f y = let x : ◌≡◌ {A = ℕ} 0 1 = cc in absurd (omega arith)
+          of-kind Directory f y = absurd cc
+          of-kind SymbolicLink f y = absurd cc
           of-kind RegularFile f y = record { opened = o; names = ps; cut = c; left = h; found = n; last = last; walk = q; row = r; there = t; file = f }
 
       judged : (w : Walk) → walk_from start a ps ≡ w → Four (as_directory a w) → MeansFile start path a
@@ -175,11 +175,11 @@ module _ (start : ℕ) (path : List ℕ) (a : Names) where
         go true m z = let k = both_true _ _ m in judged k.0 (ltb-true 0 (length ps) k.1) (walk_from start a ps) refl z
         go false m z = absurd (plain ps (walk_from start a ps) refl z)
 
-  pub refused-file : find_node start path a ≡ Refused NotDirectory → MeansFile start path a
+  pub refused-file : find_node start path a ≡ Err NotDirectory → MeansFile start path a
   unfolding find_node on_cutting
   refused-file = go (cut_path path) refl
     where
-      go : (c : Cutting) → cut_path path ≡ c → on_cutting Refused (λ ps. node_reached (walk_path start path a ps)) c ≡ Refused NotDirectory → MeansFile start path a
+      go : (c : Cutting) → cut_path path ≡ c → on_cutting Err (λ ps. node_reached (walk_path start path a ps)) c ≡ Err NotDirectory → MeansFile start path a
       go (parts ps) c z = means ps c z
-      go not_permitted c z = let x : ◌≡◌ {A = ℕ} 0 1 = cc in absurd (omega arith)
-      go too_long c z = let x : ◌≡◌ {A = ℕ} 0 1 = cc in absurd (omega arith)
+      go not_permitted c z = absurd cc
+      go too_long c z = absurd cc

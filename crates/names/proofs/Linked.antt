@@ -1,5 +1,6 @@
 -- What link does: its refusals, which leave the names as they were, and the entry that it makes for a file.
 -- Assumes nothing.
+use Rattle.std.specs.Prelude.{Err}
 use mathlib.Core.Path.{◌≡◌, refl, sym, ap, ◌∙◌}
 use mathlib.Core.Bool.{true}
 use mathlib.Core.List.{List}
@@ -10,7 +11,6 @@ use lib.Dec.{leb}
 use lib.ListN.{length}
 use borrow.Author.Tests.{leb-false}
 use Rattle.words.proofs.Order.{each_map}
-use Rattle.types.specs.declared.Answer.TheVariants.{Refused}
 use Rattle.types.specs.declared.Error.{Error}
 use Rattle.types.specs.declared.FileType.TheVariants.{Directory}
 use Rattle.types.specs.declared.NodeRecord.{NodeRecord}
@@ -155,9 +155,9 @@ link-owned p name t a s g o = go (link p name t a) (links-view p name t a)
     go z (links r d w e i) = linked-owned p name t a r d w i s o
 
 -- a refusal leaves the names as they were
-pub link-leaves : (p : ℕ) (name : List ℕ) (t : ℕ) (a : Names) (e : Error) → (link p name t a).answer ≡ Refused e → (link p name t a).after ≡ a
+pub link-leaves : (p : ℕ) (name : List ℕ) (t : ℕ) (a : Names) (e : Error) → (link p name t a).answer ≡ Err e → (link p name t a).after ≡ a
 link-leaves p name t a e = go (link p name t a) (links-view p name t a)
   where
-    go : (s : NamesStep) → Links p name t a s → s.answer ≡ Refused e → s.after ≡ a
+    go : (s : NamesStep) → Links p name t a s → s.answer ≡ Err e → s.after ≡ a
     go s (refuses-link x) q = refl
-    go s (links r d w h i) q = let x : ◌≡◌ {A = ℕ} 0 1 = cc in absurd (omega arith)
+    go s (links r d w h i) q = absurd cc

@@ -1,6 +1,7 @@
 -- Entries looked through up to a limit: what is told of them, by the position of the one that has the name; that a greater limit changes nothing
 -- but where it stopped; and that one goes on from there.
 -- Assumes nothing.
+use Rattle.std.specs.Prelude.{Ok}
 use mathlib.Core.Path.{◌≡◌, refl, sym, ap, ◌∙◌}
 use mathlib.Core.Bool.{Bool, true, false, not, false≢true}
 use mathlib.Core.List.{List, [], ◌∷◌}
@@ -17,30 +18,22 @@ use Rattle.words.specs.Tables.{lead, lead_of, find}
 use Rattle.words.proofs.Search.{lead-le, lead-ends, find-found, find-behind}
 use Rattle.types.specs.Answers.{search_case}
 use Rattle.types.specs.declared.Search.{Search}
-use Rattle.types.specs.declared.Search.TheVariants.{Found, Absent, Stopped, Refused}
+use Rattle.types.specs.declared.Search.TheVariants.{Found, Absent, Stopped}
 use Rattle.volume.specs.Rows.{Entry, read_entry}
 use Rattle.names.specs.Entries.{on_entry}
-use Rattle.names.specs.Searching.{named, position, unfound, looked_through, in_all}
+use Rattle.names.specs.Searching.{named, position, unfound, looked_through, found_in_all}
 
 -- ---- numbers looked at, added up
 
-all_none : (s : Search) → in_all 0 s ≡ s
+all_none : (s : Search) → found_in_all 0 s ≡ s
 all_none (Found i n k) = ap (Found i n) (zero-add k)
 all_none (Absent k) = ap Absent (zero-add k)
 all_none (Stopped i k) = ap (Stopped i) (zero-add k)
-all_none (Refused e) = refl
 
-all_one : (m : ℕ) (s : Search) → in_all 1 (in_all m s) ≡ in_all (suc m) s
+all_one : (m : ℕ) (s : Search) → found_in_all 1 (found_in_all m s) ≡ found_in_all (suc m) s
 all_one m (Found i n k) = let e : 1 + (m + k) ≡ suc m + k = omega arith in ap (Found i n) e
 all_one m (Absent k) = let e : 1 + (m + k) ≡ suc m + k = omega arith in ap Absent e
 all_one m (Stopped i k) = let e : 1 + (m + k) ≡ suc m + k = omega arith in ap (Stopped i) e
-all_one m (Refused e) = refl
-
-all-case : (m : ℕ) (s : Search) → search_case (in_all m s) ≡ search_case s
-all-case m (Found i n k) = refl
-all-case m (Absent k) = refl
-all-case m (Stopped i k) = refl
-all-case m (Refused e) = refl
 
 module _ (name : List ℕ) where
   abbrev pub other : Entry → Bool
@@ -57,18 +50,18 @@ module _ (name : List ℕ) where
   unfolding looked_through unfound on_entry find
   walk-stop e es = refl
 
-  unfound-more : (k : ℕ) (es : List Entry) → unfound (suc k) es ≡ in_all 1 (unfound k es)
+  unfound-more : (k : ℕ) (es : List Entry) → unfound (suc k) es ≡ found_in_all 1 (unfound k es)
   unfolding unfound
   unfound-more k [] = ap Absent (sym (one-add k))
   unfound-more k (e ∷ es) = ap (Stopped e.index) (sym (one-add k))
 
-  walk-one : (most : ℕ) (e : Entry) (es : List Entry) → looked_through name (suc most) (e ∷ es) ≡ pick (named name e) (Found e.index e.node 1) (in_all 1 (looked_through name most es))
+  walk-one : (most : ℕ) (e : Entry) (es : List Entry) → looked_through name (suc most) (e ∷ es) ≡ pick (named name e) (Found e.index e.node 1) (found_in_all 1 (looked_through name most es))
   unfolding looked_through on_entry find pick position lead lead_of
   walk-one most e es = go (named name e) (find (named name) (take most es))
     where
       go : (b : Bool) (o : Option Entry)
           → on_entry (unfound (suc (length (take most es))) (drop most es)) (λ x. Found x.index x.node (lead_of (not b) (lead other es) + 1)) (pick b (some e) o)
-          ≡ pick b (Found e.index e.node 1) (in_all 1 (on_entry (unfound (length (take most es)) (drop most es)) (λ x. Found x.index x.node (lead other es + 1)) o))
+          ≡ pick b (Found e.index e.node 1) (found_in_all 1 (on_entry (unfound (length (take most es)) (drop most es)) (λ x. Found x.index x.node (lead other es + 1)) o))
       go true o = refl
       go false none = unfound-more (length (take most es)) (drop most es)
       go false (some x) = let h : suc (lead other es) + 1 ≡ 1 + (lead other es + 1) = omega arith in ap (Found x.index x.node) h
@@ -86,7 +79,7 @@ module _ (name : List ℕ) where
     where
       go : (t : Bool) → lead_of (not t) (lead other es) < suc most → lead_of (not t) (lead other es) < suc (length es)
           → (lead other es < most → lead other es < length es → looked_through name most es ≡ Found (entry es (lead other es)).index (entry es (lead other es)).node (lead other es + 1))
-          → pick t (Found e.index e.node 1) (in_all 1 (looked_through name most es)) ≡ Found (entry (e ∷ es) (lead_of (not t) (lead other es))).index (entry (e ∷ es) (lead_of (not t) (lead other es))).node (lead_of (not t) (lead other es) + 1)
+          → pick t (Found e.index e.node 1) (found_in_all 1 (looked_through name most es)) ≡ Found (entry (e ∷ es) (lead_of (not t) (lead other es))).index (entry (e ∷ es) (lead_of (not t) (lead other es))).node (lead_of (not t) (lead other es) + 1)
       go true h b ih = refl
       go false h b ih =
           let k : 1 + (lead other es + 1) ≡ suc (lead other es) + 1 = omega arith in
@@ -99,7 +92,7 @@ module _ (name : List ℕ) where
   when-absent (suc most) (e ∷ es) h b = walk-one most e es ∙ go (named name e) h (when-absent most es)
     where
       go : (t : Bool) → lead_of (not t) (lead other es) ≡ suc (length es) → (lead other es ≡ length es → length es ≤ most → looked_through name most es ≡ Absent (length es))
-          → pick t (Found e.index e.node 1) (in_all 1 (looked_through name most es)) ≡ Absent (suc (length es))
+          → pick t (Found e.index e.node 1) (found_in_all 1 (looked_through name most es)) ≡ Absent (suc (length es))
       go true h ih = absurd (omega arith)
       go false h ih = rw (ih (omega arith) (omega arith)) (ap Absent (one-add (length es)))
 
@@ -110,7 +103,7 @@ module _ (name : List ℕ) where
   when-stopped (suc most) (e ∷ es) h b = walk-one most e es ∙ go (named name e) h (when-stopped most es)
     where
       go : (t : Bool) → suc most ≤ lead_of (not t) (lead other es) → (most ≤ lead other es → most < length es → looked_through name most es ≡ Stopped (entry es most).index most)
-          → pick t (Found e.index e.node 1) (in_all 1 (looked_through name most es)) ≡ Stopped (entry es most).index (suc most)
+          → pick t (Found e.index e.node 1) (found_in_all 1 (looked_through name most es)) ≡ Stopped (entry es most).index (suc most)
       go true h ih = absurd (not-suc-le-zero h)
       go false h ih = rw (ih (omega arith) (omega arith)) (ap (Stopped (entry es most).index) (one-add most))
 
@@ -140,26 +133,26 @@ module _ (name : List ℕ) where
 
   -- ---- a greater limit
 
-  pub looked-further : (most more : ℕ) (es : List Entry) → most ≤ more → (search_case (looked_through name most es) ≡ 2 → ⊥) → looked_through name more es ≡ looked_through name most es
+  pub looked-further : (most more : ℕ) (es : List Entry) → most ≤ more → (search_case (Ok (looked_through name most es)) ≡ 2 → ⊥) → looked_through name more es ≡ looked_through name most es
   looked-further most more es l n = go (looked_through name most es) (told most es) n
     where
-      go : (s : Search) → Told most es s → (search_case s ≡ 2 → ⊥) → looked_through name more es ≡ s
+      go : (s : Search) → Told most es s → (search_case (Ok s) ≡ 2 → ⊥) → looked_through name more es ≡ s
       go _ (told-found h b) n = when-found more es (omega arith) b
       go _ (told-absent h b) n = when-absent more es h (omega arith)
       go _ (told-stopped h b) n = absurd (n refl)
 
   -- ---- where it stopped, one goes on
 
-  pub looked-on : (most more : ℕ) (es : List Entry) → most ≤ lead other es → in_all most (looked_through name more (drop most es)) ≡ looked_through name (most + more) es
+  pub looked-on : (most more : ℕ) (es : List Entry) → most ≤ lead other es → found_in_all most (looked_through name more (drop most es)) ≡ looked_through name (most + more) es
   unfolding lead lead_of pick
   looked-on zero more es h = all_none (looked_through name more es) ∙ ap (λ m. looked_through name m es) (sym (zero-add more))
   looked-on (suc most) more [] h = absurd (not-suc-le-zero h)
   looked-on (suc most) more (e ∷ es) h = go (named name e) h refl (looked-on most more es) ∙ sym (walk-one (most + more) e es) ∙ ap (λ m. looked_through name m (e ∷ es)) (sym (suc-add most more))
     where
-      go : (t : Bool) → suc most ≤ lead_of (not t) (lead other es) → named name e ≡ t → (most ≤ lead other es → in_all most (looked_through name more (drop most es)) ≡ looked_through name (most + more) es)
-          → in_all (suc most) (looked_through name more (drop most es)) ≡ pick (named name e) (Found e.index e.node 1) (in_all 1 (looked_through name (most + more) es))
+      go : (t : Bool) → suc most ≤ lead_of (not t) (lead other es) → named name e ≡ t → (most ≤ lead other es → found_in_all most (looked_through name more (drop most es)) ≡ looked_through name (most + more) es)
+          → found_in_all (suc most) (looked_through name more (drop most es)) ≡ pick (named name e) (Found e.index e.node 1) (found_in_all 1 (looked_through name (most + more) es))
       go true h q ih = absurd (not-suc-le-zero h)
-      go false h q ih = let k : most ≤ lead other es = omega arith in rw q (sym (all_one most (looked_through name more (drop most es))) ∙ ap (in_all 1) (ih k))
+      go false h q ih = let k : most ≤ lead other es = omega arith in rw q (sym (all_one most (looked_through name more (drop most es))) ∙ ap (found_in_all 1) (ih k))
 
   -- ---- the full search
 

@@ -5,7 +5,6 @@ use mathlib.Core.Bool.{Bool, true, false}
 use mathlib.Core.List.{List, []}
 use mathlib.Core.Option.{Option, none, some}
 use Prim.Native.Nat.{ℕ, ◌<◌}
-use native.Mathlib.Omega.{arith}
 use lib.Dec.{ltb}
 use lib.ListN.{length}
 use borrow.Author.Tests.{lt-ltb}
@@ -89,7 +88,7 @@ unfolding walk_path as_directory pick
 path-reached start path a ps {n} {o} = go (means_directory path ps)
   where
     refusal : (e : Error) → stopped e ≡ reached n o → ⊥
-    refusal e q = let x : ◌≡◌ {A = ℕ} 0 1 = cc in omega arith
+    refusal e q = cc
 
     judged : (w : Walk) → as_directory a w ≡ reached n o → w ≡ reached n o
     judged (reached m l) q = passing-is stopped (reached m l) (reached n o) refusal (node m a) q

@@ -1,5 +1,6 @@
 -- What remove does: its refusals, which leave the volume as it was, and the row that goes with its chunks. A good volume that fits stays one.
 -- Assumes nothing.
+use Rattle.std.specs.Prelude.{Err}
 use mathlib.Core.Path.{◌≡◌, refl, sym, ap, ◌∙◌, subst}
 use mathlib.Core.Bool.{Bool, true, false, not}
 use mathlib.Core.Option.{Option, none, some, none-ne-some}
@@ -14,7 +15,6 @@ use Rattle.words.proofs.Order.{each_map}
 use Rattle.words.proofs.Counting.{bit-same, pass-none}
 use Rattle.words.proofs.Only.{each-only, asc-only, find-only, find-gone, length_both}
 use Rattle.types.specs.Nodes.{is_directory}
-use Rattle.types.specs.declared.Answer.TheVariants.{Refused}
 use Rattle.types.specs.declared.Error.{Error}
 use Rattle.types.specs.declared.Error.TheVariants.{NoSuchEntry, Busy}
 use Rattle.types.specs.declared.FileType.TheVariants.{Directory}
@@ -170,9 +170,9 @@ remove-kept n v f g = go (remove n v) (remove-cases n v)
     )
 
 -- a refusal leaves the volume as it was
-pub remove-refused : (n : ℕ) (v : Volume) (e : Error) → (remove n v).answer ≡ Refused e → (remove n v).after ≡ v
+pub remove-refused : (n : ℕ) (v : Volume) (e : Error) → (remove n v).answer ≡ Err e → (remove n v).after ≡ v
 remove-refused n v e = go (remove n v) (remove-cases n v)
   where
-    go : (s : Step) → Removes n v s → s.answer ≡ Refused e → s.after ≡ v
+    go : (s : Step) → Removes n v s → s.answer ≡ Err e → s.after ≡ v
     go s (refuses d) q = refl
-    go s (removes r there bare) q = let x : ◌≡◌ {A = ℕ} 0 1 = cc in absurd (omega arith)
+    go s (removes r there bare) q = absurd cc

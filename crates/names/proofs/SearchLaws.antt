@@ -1,6 +1,7 @@
 -- The laws of a search that may stop: how many were looked at, that what it finds or misses is what the full search finds or misses, that a
 -- greater limit changes nothing of that, and that going on from where it stopped gives in all what one search gives.
 -- Assumes nothing.
+use Rattle.std.specs.Prelude.{Result, Ok, Err}
 use mathlib.Core.Path.{◌≡◌, refl, sym, ap, ◌∙◌}
 use mathlib.Core.Bool.{Bool, true, false}
 use mathlib.Core.List.{List, []}
@@ -22,22 +23,22 @@ use Rattle.types.specs.declared.Error.{Error}
 use Rattle.types.specs.declared.Error.TheVariants.{NoSuchEntry, NotDirectory, BadName}
 use Rattle.types.specs.declared.NodeRecord.{NodeRecord}
 use Rattle.types.specs.declared.Search.{Search}
-use Rattle.types.specs.declared.Search.TheVariants.{Found, Absent, Stopped, Refused}
+use Rattle.types.specs.declared.Search.TheVariants.{Found, Absent, Stopped}
 use Rattle.paths.specs.Path.{name_allowed}
 use Rattle.volume.specs.Rows.{Entry, read_entry}
 use Rattle.volume.specs.Volume.{Names}
 use Rattle.volume.specs.Sound.{node, Named}
 use Rattle.names.specs.Entries.{has_name, entry_named, from_index}
 use Rattle.names.specs.Listing.{on_directory}
-use Rattle.names.specs.Searching.{entries_from, named, named_from, position, looked_through, search, in_all}
+use Rattle.names.specs.Searching.{entries_from, named, named_from, position, looked_through, search, found_in_all, in_all}
 use Rattle.names.proofs.LookedThrough.{other, Told, told-found, told-absent, told-stopped, told, looked-further, looked-on, first-named, none_named}
 use Rattle.names.proofs.EntryRuns.{find-same, says-from, each-passes, entries-on}
 
 -- ---- refused for what no index and no limit changes, or carried out
 
 data Goes (d : ℕ) (name : List ℕ) (a : Names) : Type 0 where
-  refused : (e : Error) → ((from most : ℕ) → search d name from most a ≡ Refused e) → Goes d name a
-  looks : ((from most : ℕ) → search d name from most a ≡ looked_through name most (entries_from d from a.entries)) → Goes d name a
+  refused : (e : Error) → ((from most : ℕ) → search d name from most a ≡ Err e) → Goes d name a
+  looks : ((from most : ℕ) → search d name from most a ≡ Ok (looked_through name most (entries_from d from a.entries))) → Goes d name a
 
 goes : (d : ℕ) (name : List ℕ) (a : Names) → Goes d name a
 unfolding search on_directory pick
@@ -67,6 +68,14 @@ named-all d name es = find-same (named name) (has_name d name) (only (from_index
     from_first : (e : Entry) → has_name d name e ≡ true → from_index d 0 e ≡ true
     from_first e h = true-says (says-from d 0 e) (eqb-true e.parent d (both_true (eqb e.parent d) (same e.name name) h).0, omega arith)
 
+-- a refusal is not carried out
+neither : {e : Error} {s : Search} → ◌≡◌ {A = Result Search Error} (Err e) (Ok s) → ⊥
+neither q = cc
+
+-- and what is carried out gives one thing
+carried : {s t : Search} → ◌≡◌ {A = Result Search Error} (Ok s) (Ok t) → s ≡ t
+carried q = cc
+
 module _ (d : ℕ) (name : List ℕ) (from most : ℕ) (a : Names) where
   abbrev among : List Entry
   among = entries_from d from a.entries
@@ -80,7 +89,7 @@ module _ (d : ℕ) (name : List ℕ) (from most : ℕ) (a : Names) where
     pub counted : looked ≡ position name among
     pub within : looked ≤ most
 
-  pub search-found : {index n looked : ℕ} → search d name from most a ≡ Found index n looked → FoundAt index n looked
+  pub search-found : {index n looked : ℕ} → search d name from most a ≡ Ok (Found index n looked) → FoundAt index n looked
   unfolding named_from position
   search-found {index} {n} {looked} e = go (goes d name a)
     where
@@ -90,46 +99,43 @@ module _ (d : ℕ) (name : List ℕ) (from most : ℕ) (a : Names) where
           let m : (get_or among (lead (other name) among) (read_entry [])).node ≡ n = cc in
           let k : lead (other name) among + 1 ≡ looked = cc in
           record { entry = get_or among (lead (other name) among) (read_entry []); full = first-named name among b; indexed = sym i; noded = sym m; counted = sym k; within = omega arith }
-      of-told _ (told-absent h b) q = let x : ◌≡◌ {A = ℕ} 0 1 = ap search_case q in absurd (omega arith)
-      of-told _ (told-stopped h b) q = let x : ◌≡◌ {A = ℕ} 2 1 = ap search_case q in absurd (omega arith)
+      of-told _ (told-absent h b) q = absurd cc
+      of-told _ (told-stopped h b) q = absurd cc
 
       go : Goes d name a → FoundAt index n looked
-      go (refused x h) = let y : ◌≡◌ {A = ℕ} 0 1 = ap search_case (sym (h from most) ∙ e) in absurd (omega arith)
-      go (looks h) = of-told (looked_through name most among) (told name most among) (sym (h from most) ∙ e)
+      go (refused x h) = absurd (neither (sym (h from most) ∙ e))
+      go (looks h) = of-told (looked_through name most among) (told name most among) (carried (sym (h from most) ∙ e))
 
   -- none has the name, and all were looked at
-  pub search-absent : {looked : ℕ} → search d name from most a ≡ Absent looked → (named_from d name from a.entries ≡ none) × (looked ≡ length among) × (looked ≤ most)
+  pub search-absent : {looked : ℕ} → search d name from most a ≡ Ok (Absent looked) → (named_from d name from a.entries ≡ none) × (looked ≡ length among) × (looked ≤ most)
   unfolding named_from
   search-absent {looked} e = go (goes d name a)
     where
       of-told : (s : Search) → Told name most among s → s ≡ Absent looked → (find (named name) among ≡ none) × (looked ≡ length among) × (looked ≤ most)
-      of-told _ (told-found h b) q = let x : ◌≡◌ {A = ℕ} 1 0 = ap search_case q in absurd (omega arith)
+      of-told _ (told-found h b) q = absurd cc
       of-told _ (told-absent h b) q = let k : length among ≡ looked = cc in (none_named name among h, sym k, omega arith)
-      of-told _ (told-stopped h b) q = let x : ◌≡◌ {A = ℕ} 2 0 = ap search_case q in absurd (omega arith)
+      of-told _ (told-stopped h b) q = absurd cc
 
       go : Goes d name a → (find (named name) among ≡ none) × (looked ≡ length among) × (looked ≤ most)
-      go (refused x h) = let y : Refused x ≡ Absent looked = sym (h from most) ∙ e in not-absent x y
-        where
-          not-absent : (x : Error) → Refused x ≡ Absent looked → (find (named name) among ≡ none) × (looked ≡ length among) × (looked ≤ most)
-          not-absent x y = let z : ◌≡◌ {A = ℕ} 0 1 = cc in absurd (omega arith)
-      go (looks h) = of-told (looked_through name most among) (told name most among) (sym (h from most) ∙ e)
+      go (refused x h) = absurd (neither (sym (h from most) ∙ e))
+      go (looks h) = of-told (looked_through name most among) (told name most among) (carried (sym (h from most) ∙ e))
 
   -- as many as the limit were looked at, none of them has the name, and the next one has the index
-  pub search-stopped : {index looked : ℕ} → search d name from most a ≡ Stopped index looked → (looked ≡ most) × (most < length among) × (most < position name among) × (index ≡ (get_or among most (read_entry [])).index)
+  pub search-stopped : {index looked : ℕ} → search d name from most a ≡ Ok (Stopped index looked) → (looked ≡ most) × (most < length among) × (most < position name among) × (index ≡ (get_or among most (read_entry [])).index)
   unfolding position
   search-stopped {index} {looked} e = go (goes d name a)
     where
       of-told : (s : Search) → Told name most among s → s ≡ Stopped index looked → (looked ≡ most) × (most < length among) × (most < lead (other name) among + 1) × (index ≡ (get_or among most (read_entry [])).index)
-      of-told _ (told-found h b) q = let x : ◌≡◌ {A = ℕ} 1 2 = ap search_case q in absurd (omega arith)
-      of-told _ (told-absent h b) q = let x : ◌≡◌ {A = ℕ} 0 2 = ap search_case q in absurd (omega arith)
+      of-told _ (told-found h b) q = absurd cc
+      of-told _ (told-absent h b) q = absurd cc
       of-told _ (told-stopped h b) q =
           let k : most ≡ looked = cc in
           let i : (get_or among most (read_entry [])).index ≡ index = cc in
           (sym k, b, omega arith, sym i)
 
       go : Goes d name a → (looked ≡ most) × (most < length among) × (most < lead (other name) among + 1) × (index ≡ (get_or among most (read_entry [])).index)
-      go (refused x h) = let y : ◌≡◌ {A = ℕ} 0 2 = ap search_case (sym (h from most) ∙ e) in absurd (omega arith)
-      go (looks h) = of-told (looked_through name most among) (told name most among) (sym (h from most) ∙ e)
+      go (refused x h) = absurd (neither (sym (h from most) ∙ e))
+      go (looks h) = of-told (looked_through name most among) (told name most among) (carried (sym (h from most) ∙ e))
 
   -- a greater limit changes nothing but a search that stopped
   pub limit-raised : (more : ℕ) → most ≤ more → (search_case (search d name from most a) ≡ 2 → ⊥) → search d name from more a ≡ search d name from most a
@@ -137,13 +143,13 @@ module _ (d : ℕ) (name : List ℕ) (from most : ℕ) (a : Names) where
     where
       go : Goes d name a → search d name from more a ≡ search d name from most a
       go (refused x h) = h from more ∙ sym (h from most)
-      go (looks h) = h from more ∙ looked-further name most more among l (λ q. n (ap search_case (h from most) ∙ q)) ∙ sym (h from most)
+      go (looks h) = h from more ∙ ap Ok (looked-further name most more among l (λ q. n (ap search_case (h from most) ∙ q))) ∙ sym (h from most)
 
   -- with a limit of as many as there are, it does not stop
   pub search-ends : length among ≤ most → search_case (search d name from most a) ≡ 2 → ⊥
   search-ends l q = go (goes d name a)
     where
-      of-told : (s : Search) → Told name most among s → search_case s ≡ 2 → ⊥
+      of-told : (s : Search) → Told name most among s → search_case (Ok s) ≡ 2 → ⊥
       of-told _ (told-found h b) q = omega arith
       of-told _ (told-absent h b) q = omega arith
       of-told _ (told-stopped h b) q = omega arith
@@ -153,7 +159,7 @@ module _ (d : ℕ) (name : List ℕ) (from most : ℕ) (a : Names) where
       go (looks h) = of-told (looked_through name most among) (told name most among) (sym (ap search_case (h from most)) ∙ q)
 
   -- going on from where it stopped gives in all what one search gives whose limit is the sum of both
-  pub search-goes-on : Named a → {index looked : ℕ} → search d name from most a ≡ Stopped index looked → (more : ℕ) → in_all looked (search d name index more a) ≡ search d name from (looked + more) a
+  pub search-goes-on : Named a → {index looked : ℕ} → search d name from most a ≡ Ok (Stopped index looked) → (more : ℕ) → in_all looked (search d name index more a) ≡ search d name from (looked + more) a
   unfolding position
   search-goes-on g {index} {looked} e more = go (goes d name a)
     where
@@ -166,5 +172,5 @@ module _ (d : ℕ) (name : List ℕ) (from most : ℕ) (a : Names) where
       go : Goes d name a → in_all looked (search d name index more a) ≡ search d name from (looked + more) a
       go (refused x h) = rw (h index more, h from (looked + more))
       go (looks h) =
-          ap (in_all looked) (h index more ∙ ap (looked_through name more) rest) ∙ ap (λ k. in_all k (looked_through name more (drop most among))) at.0 ∙ looked-on name most more among (omega (arith, at.2))
-          ∙ ap (λ k. looked_through name (k + more) among) (sym at.0) ∙ sym (h from (looked + more))
+          ap (in_all looked) (h index more ∙ ap (λ es. Ok (looked_through name more es)) rest) ∙ ap (λ k. Ok (found_in_all k (looked_through name more (drop most among)))) at.0 ∙ ap Ok (looked-on name most more among (omega (arith, at.2)))
+          ∙ ap (λ k. Ok (looked_through name (k + more) among)) (sym at.0) ∙ sym (h from (looked + more))

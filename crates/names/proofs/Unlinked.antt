@@ -1,6 +1,7 @@
 -- What unlink does: its refusals, which leave the names as they were, and the entry that goes. Good names that fit stay so, and chunks
 -- keep their owners.
 -- Assumes nothing.
+use Rattle.std.specs.Prelude.{Err}
 use mathlib.Core.Path.{◌≡◌, refl, sym, ap, ◌∙◌}
 use mathlib.Core.Bool.{Bool, true, false, not}
 use mathlib.Core.List.{List}
@@ -18,7 +19,6 @@ use Rattle.words.proofs.FoundRows.{found-each}
 use Rattle.words.proofs.Only.{each-only, asc-only, length_both}
 use Rattle.types.specs.Nodes.{is_directory}
 use Rattle.types.specs.declared.Expected.{Expected}
-use Rattle.types.specs.declared.Answer.TheVariants.{Refused}
 use Rattle.types.specs.declared.Error.{Error}
 use Rattle.types.specs.declared.Error.TheVariants.{NoSuchEntry, IsDirectory, NotDirectory, PathNotPermitted, DirectoryNotEmpty, Busy, InvalidArgument}
 use Rattle.types.specs.declared.FileType.TheVariants.{Directory}
@@ -313,9 +313,9 @@ module _ (start : ℕ) (path : List ℕ) (want : Expected) (opens : ℕ) (a : Na
       go t (unlinks e l u) = unlinked-owned a g e u s o
 
   -- a refusal leaves the names as they were
-  pub unlink-refused : (e : Error) → Named a → (unlink start path want opens a).answer ≡ Refused e → (unlink start path want opens a).after ≡ a
+  pub unlink-refused : (e : Error) → Named a → (unlink start path want opens a).answer ≡ Err e → (unlink start path want opens a).after ≡ a
   unlink-refused e g = go (unlink start path want opens a) (unlink-cases start path want opens a g)
     where
-      go : (t : NamesStep) → Unlinks start path a t → t.answer ≡ Refused e → t.after ≡ a
+      go : (t : NamesStep) → Unlinks start path a t → t.answer ≡ Err e → t.after ≡ a
       go t (refuses d) q = refl
-      go t (unlinks d l u) q = let x : ◌≡◌ {A = ℕ} 0 1 = cc in absurd (omega arith)
+      go t (unlinks d l u) q = absurd cc

@@ -1,17 +1,16 @@
 -- Names after an unlink: the others lead where they led, and the one taken out leads nowhere. And which entry an accepted unlink takes.
 -- Assumes nothing.
+use Rattle.std.specs.Prelude.{Ok}
 use mathlib.Core.Path.{◌≡◌, refl, sym, ap, ◌∙◌}
 use mathlib.Core.Bool.{false}
 use mathlib.Core.List.{List, ◌∷◌, ◌++◌}
 use mathlib.Core.Option.{none}
 use Prim.Native.Nat.{ℕ}
-use native.Mathlib.Omega.{arith}
 use Rattle.words.specs.Tables.{Each, Asc, find}
 use Rattle.words.proofs.Rules.{false-says}
 use Rattle.words.proofs.Order.{each_append, each_map}
 use Rattle.words.proofs.Search.{find_none}
 use Rattle.words.proofs.Middle.{Alone, alone, asc-before, asc-behind, find-passed}
-use Rattle.types.specs.declared.Answer.TheVariants.{Done}
 use Rattle.types.specs.declared.Expected.{Expected}
 use Rattle.volume.specs.Rows.{Entry}
 use Rattle.volume.specs.Volume.{Names}
@@ -64,9 +63,9 @@ pub record Takes (start : ℕ) (path : List ℕ) (a : Names) (after : Names) : T
   pub gone : after ≡ unlinked entry a
 
 -- an accepted unlink takes the entry that its path leads to
-pub unlink-leads : (start : ℕ) (path : List ℕ) (want : Expected) (opens : ℕ) (a : Names) → Named a → (k : ℕ) → (unlink start path want opens a).answer ≡ Done k → Takes start path a (unlink start path want opens a).after
+pub unlink-leads : (start : ℕ) (path : List ℕ) (want : Expected) (opens : ℕ) (a : Names) → Named a → (k : ℕ) → (unlink start path want opens a).answer ≡ Ok k → Takes start path a (unlink start path want opens a).after
 unlink-leads start path want opens a g k = go (unlink start path want opens a) (unlink-cases start path want opens a g)
   where
-    go : (s : NamesStep) → Unlinks start path a s → s.answer ≡ Done k → Takes start path a s.after
-    go s (refuses d) q = let x : ◌≡◌ {A = ℕ} 0 1 = cc in absurd (omega arith)
+    go : (s : NamesStep) → Unlinks start path a s → s.answer ≡ Ok k → Takes start path a s.after
+    go s (refuses d) q = absurd cc
     go s (unlinks e l u) q = record { entry = e; leads = l; can = u; gone = refl }

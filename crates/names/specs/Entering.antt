@@ -1,20 +1,17 @@
 -- Believed: create and link. Both: 2 for a parent that has no row or no link, 4 for one that is no directory, 9 for a bad name. Then create:
 -- 13 (type), 10, 7, 14; and link: 2 for the target, 3, 10, 7 (entry rows), 14.
 -- Assumes nothing.
-use Rattle.std.specs.Prelude.{ℕ, ◌+◌, Bool, List, [], ◌∷◌, ◌++◌, eqb, leb, length}
+use Rattle.std.specs.Prelude.{ℕ, ◌+◌, Bool, List, [], ◌∷◌, ◌++◌, eqb, leb, length, Some, None}
 use Rattle.std.proofs.Math.Option.{Option, none, some}
 use Rattle.words.specs.Rules.{pick, either}
 use Rattle.words.specs.Tables.{lead, insert_at}
 use Rattle.types.specs.Nodes.{is_directory}
 use Rattle.types.specs.declared.FileType.{FileType}
-use Rattle.types.specs.declared.Limit.TheVariants.{Unlimited}
 use Rattle.types.specs.declared.Error.{Error}
 use Rattle.types.specs.declared.Error.TheVariants.{NoSuchEntry, NotDirectory, NoRowRoom, BadName, NameExists, InvalidArgument, NoIndexLeft}
 use Rattle.types.specs.declared.NodeRecord.{NodeRecord}
 use Rattle.paths.specs.Path.{name_allowed}
-use Rattle.volume.specs.declared.kinds.Kind.{Kind}
-use Rattle.volume.specs.declared.kinds.Kind.TheVariants.{Known, Unknown}
-use Rattle.volume.specs.Kinds.{kind_of}
+use Rattle.types.specs.Kinds.{Kind, kind_of}
 use Rattle.volume.specs.Rows.{Entry}
 use Rattle.volume.specs.Search.{entry_under}
 use Rattle.volume.specs.Volume.{Names, with_next_node, with_nodes, with_entries}
@@ -67,7 +64,7 @@ where_new p name full a call =
 
 -- a node without a limit and without bytes, named once
 abbrev pub new_node : ℕ → FileType → NodeRecord
-new_node n kind = record { node = n; kind = kind; limit = Unlimited; links = 1; size = 0 }
+new_node n kind = record { node = n; kind = kind; limit = None; links = 1; size = 0 }
 
 unfoldable pub created : ℕ → List ℕ → FileType → Names → Names
 created p name kind a =
@@ -79,8 +76,8 @@ unfoldable pub no_row_room : Names → Bool
 no_row_room a = either (leb a.node_room (length a.nodes)) (either (leb a.entry_room (length a.entries)) (eqb a.next_node most_node))
 
 unfoldable pub on_kind : {A : Type 0} → A → (FileType → A) → Kind → A
-on_kind unknown call (Known kind) = call kind
-on_kind unknown call Unknown = unknown
+on_kind unknown call (Some kind) = call kind
+on_kind unknown call None = unknown
 
 unfoldable pub create : ℕ → List ℕ → ℕ → Names → NamesStep
 create p name byte a =

@@ -1,13 +1,14 @@
 -- Believed: a search that may stop. 2 for a node that has no row, 4 for one that is no directory, 9 for a name that no entry can have. Then the
 -- directory's entries at or above an index, in index order, no more of them than a limit.
 -- Assumes nothing.
-use Rattle.std.specs.Prelude.{ℕ, ◌+◌, Bool, not, List, [], ◌∷◌, length, take, drop}
+use Rattle.std.specs.Prelude.{ℕ, ◌+◌, Bool, not, List, [], ◌∷◌, length, take, drop, Result, Ok, Err}
 use Rattle.std.proofs.Math.Option.{Option}
 use Rattle.words.specs.Rules.{pick, same}
 use Rattle.words.specs.Tables.{lead, find, only}
+use Rattle.types.specs.declared.Error.{Error}
 use Rattle.types.specs.declared.Error.TheVariants.{BadName}
 use Rattle.types.specs.declared.Search.{Search}
-use Rattle.types.specs.declared.Search.TheVariants.{Found, Absent, Stopped, Refused}
+use Rattle.types.specs.declared.Search.TheVariants.{Found, Absent, Stopped}
 use Rattle.paths.specs.Path.{name_allowed}
 use Rattle.volume.specs.Rows.{Entry}
 use Rattle.volume.specs.Volume.{Names}
@@ -44,15 +45,19 @@ looked_through name most es =
 
 -- ---- the call
 
-unfoldable pub search : ℕ → List ℕ → ℕ → ℕ → Names → Search
+unfoldable pub search : ℕ → List ℕ → ℕ → ℕ → Names → Result Search Error
 search d name from most a =
-    on_directory Refused (λ r. pick (name_allowed name) (looked_through name most (entries_from d from a.entries)) (Refused BadName)) (node d a)
+    on_directory Err (λ r. pick (name_allowed name) (Ok (looked_through name most (entries_from d from a.entries))) (Err BadName)) (node d a)
 
 -- ---- a search that goes on
 
--- what it gives in all, where so many were looked at before
-abbrev pub in_all : ℕ → Search → Search
-in_all before (Found index n looked) = Found index n (before + looked)
-in_all before (Absent looked) = Absent (before + looked)
-in_all before (Stopped index looked) = Stopped index (before + looked)
-in_all before (Refused e) = Refused e
+-- what it finds in all, where so many were looked at before
+abbrev pub found_in_all : ℕ → Search → Search
+found_in_all before (Found index n looked) = Found index n (before + looked)
+found_in_all before (Absent looked) = Absent (before + looked)
+found_in_all before (Stopped index looked) = Stopped index (before + looked)
+
+-- and what it gives
+abbrev pub in_all : ℕ → Result Search Error → Result Search Error
+in_all before (Ok s) = Ok (found_in_all before s)
+in_all before (Err e) = Err e

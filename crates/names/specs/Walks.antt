@@ -2,14 +2,13 @@
 -- one of more than 255 bytes, or 2 where the directory has no entry of that name. Below a file there is none. Behind that 4 for a path that
 -- means a directory and leads to a regular file.
 -- Assumes nothing.
-use Rattle.std.specs.Prelude.{ℕ, Bool, true, false, List, [], ◌∷◌, ltb, length}
+use Rattle.std.specs.Prelude.{ℕ, Bool, true, false, List, [], ◌∷◌, ltb, length, Ok, Err}
 use Rattle.std.proofs.Math.Option.{Option, none, some}
 use Rattle.words.specs.Rules.{pick, both}
 use Rattle.types.specs.Sizes.{most_name}
 use Rattle.types.specs.declared.Error.{Error}
 use Rattle.types.specs.declared.Error.TheVariants.{NoSuchEntry, NotDirectory, PathNotPermitted, BadName, InvalidArgument}
-use Rattle.types.specs.declared.Answer.{Answer}
-use Rattle.types.specs.declared.Answer.TheVariants.{Done, Refused}
+use Rattle.types.specs.Answers.{Answer}
 use Rattle.types.specs.declared.FileType.{FileType}
 use Rattle.types.specs.declared.FileType.TheVariants.{Directory, RegularFile, SymbolicLink}
 use Rattle.types.specs.declared.NodeRecord.{NodeRecord}
@@ -76,8 +75,8 @@ walk_path start path a ps = pick (means_directory path ps) (as_directory a (walk
 -- ---- the call
 
 unfoldable pub node_reached : Walk → Answer
-node_reached (reached n last) = Done n
-node_reached (stopped e) = Refused e
+node_reached (reached n last) = Ok n
+node_reached (stopped e) = Err e
 
 unfoldable pub find_node : ℕ → List ℕ → Names → Answer
-find_node start path a = on_cutting Refused (λ ps. node_reached (walk_path start path a ps)) (cut_path path)
+find_node start path a = on_cutting Err (λ ps. node_reached (walk_path start path a ps)) (cut_path path)

@@ -1,7 +1,12 @@
 // Makes a new volume with chunks of 16,384 bytes, and prints its report.
 #![tactic(auto)]
 
-use vectors::STDOUT_FILENO;
+use std::io;
+use std::io::Write;
+use types::Error;
+
+// The bytes of the volume.
+const MEMORY: usize = 1_048_576;
 
 // Room for a report.
 const OUTPUT: usize = 512;
@@ -10,17 +15,18 @@ const ROWS: u64 = 16;
 
 const CHUNK_SIZE: u64 = 16_384;
 
-fn main() {
-    let mut memory = vectors::blank();
-    volume::new_volume(&mut memory, ROWS, ROWS, ROWS, CHUNK_SIZE);
-    let mut out = [0u8; OUTPUT];
-    let answer = lentilraft::report(&memory, &mut out);
-    print_text(&out, types::value(answer) as usize);
+fn main(rt: HostRuntime) -> io::Result<()> {
+    let mut memory = vec![in rt.alloc(); 0; MEMORY]?;
+    let mut out = [0; OUTPUT];
+    let answer = report(&mut memory, &mut out);
+    match out.get(..types::value(answer) as usize) {
+        Some(text) => io::writer(&rt).write_all(text),
+        None => Ok(()),
+    }
 }
 
-fn print_text(text: &[u8], count: usize) {
-    if text.len() < count {
-        return;
-    }
-    io::write_all(STDOUT_FILENO, &text[..count]);
+// Puts the report of a new volume at the front of the output, and answers its length.
+fn report(memory: &mut [u8], out: &mut [u8]) -> Result<u64, Error> {
+    volume::new_volume(memory, ROWS, ROWS, ROWS, CHUNK_SIZE)?;
+    lentilraft::report(memory, out)
 }

@@ -13,7 +13,7 @@ use lib.Seq.{get_or-append-add}
 use Rattle.words.specs.Rules.{pick, both, either, same}
 use Rattle.types.specs.Sizes.{most_path}
 use Rattle.paths.specs.Path.{parts, not_permitted, slash, cons, split, dropped, upward, walk, cut_path, ends_open}
-use Rattle.paths.proofs.Scan.{split-some, cons-slash}
+use Rattle.paths.proofs.Splitting.{split-some, cons-slash}
 
 -- ---- pieces
 

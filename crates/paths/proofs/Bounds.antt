@@ -1,5 +1,6 @@
 -- What a caller learns of a cut path: the bounds show the parts that the definition over lists gives, and lie in the path.
 -- Assumes nothing.
+use Rattle.std.specs.Prelude.{Ok, Err}
 use mathlib.Core.Path.{◌≡◌, refl, sym, ◌∙◌}
 use mathlib.Core.Bool.{Bool, true, false}
 use mathlib.Core.List.{List, [], ◌∷◌, ◌++◌}
@@ -15,27 +16,28 @@ use Rattle.words.specs.Rules.{pick, both, either}
 use Rattle.types.specs.Sizes.{most_path, most_parts}
 use Rattle.types.specs.Outcomes.{OneOutcome}
 use Rattle.types.proofs.Outcomes.{one-outcome}
-use Rattle.paths.specs.declared.Cut.{Cut}
-use Rattle.paths.specs.declared.Cut.TheVariants.{Parts, NotPermitted, TooLong}
+use Rattle.paths.specs.declared.Parts.{Parts}
+use Rattle.paths.specs.declared.PathError.TheVariants.{NotPermitted, TooLong}
+use Rattle.paths.specs.declared.PathError.{PathError}
 use Rattle.paths.specs.declared.Sort.{Sort}
 use Rattle.paths.specs.Path.{Cutting, parts, not_permitted, too_long, slash, split, dropped, upward, walk, cut_path, ends_open}
 use Rattle.paths.specs.Bounds.{Bounds, passed, less_one, kept, walk_bounds, cut_bounds}
-use Rattle.paths.specs.Shown.{Cutout, cutout, shown_from, shown_parts, shown_cut, BoundsFit, CutShows}
+use Rattle.paths.specs.Shown.{Cut, Cutout, cutout, shown_from, shown_parts, shown_cut, BoundsFit, CutShows}
 use Rattle.paths.proofs.Sorts.{Sorted, is-dropped, is-upward, is_plain_name, sorted}
 use Rattle.paths.proofs.Names.{kept-some}
-use Rattle.paths.proofs.Scan.{split-some}
+use Rattle.paths.proofs.Splitting.{split-some}
 use Rattle.paths.proofs.Walk.{bounds}
 use Rattle.paths.proofs.Shown.{length-shown, shown-less, shown-kept, Lie, pieces-lie}
 
 -- the case of an outcome is the case of the definition
 module _ {path : List ℕ} {o : Cutout} {c : Cutting} {opened : Bool} (told : CutShows path o c opened) where
-  pub told-parts : {n : ℕ} {d : Bool} → o.cut ≡ Parts n d → c ≡ parts (shown_parts path o.starts o.lengths n)
+  pub told-parts : {p : Parts} → o.cut ≡ Ok p → c ≡ parts (shown_parts path o.starts o.lengths p.count)
   told-parts e = sym (rw e at told.shows)
 
-  pub told-refused : o.cut ≡ NotPermitted → c ≡ not_permitted
+  pub told-refused : o.cut ≡ (Err NotPermitted) → c ≡ not_permitted
   told-refused e = sym (rw e at told.shows)
 
-  pub told-long : o.cut ≡ TooLong → c ≡ too_long
+  pub told-long : o.cut ≡ (Err TooLong) → c ≡ too_long
   told-long e = sym (rw e at told.shows)
 
 fit-kept : (path ss ls : List ℕ) (k a n : ℕ) → BoundsFit path ss ls k → k < length ss → k < length ls → k < most_parts → a + n ≤ length path → 0 < n → BoundsFit path (set ss k a) (set ls k n) (k + 1)
@@ -102,26 +104,25 @@ walked_end : (path : List ℕ) (at : ℕ) (b : Bounds) → Held path at b → Wa
 unfolding Walked walk_bounds walk shown_of opened_after
 walked_end path at b h = record { shows = refl; fits = fits; flag = flag }
   where
-    fits : (n : ℕ) (d : Bool) → Parts b.count (both b.opened (ltb 0 b.count)) ≡ Parts n d → BoundsFit path b.starts b.lengths n
-    fits n d e =
-        let k : b.count ≡ n = cc in
+    ended : Parts
+    ended = record { count = b.count; opened = both b.opened (ltb 0 b.count) }
+
+    fits : (p : Parts) → ◌≡◌ {A = Cut} (Ok ended) (Ok p) → BoundsFit path b.starts b.lengths p.count
+    fits p e =
+        let k : ended ≡ p = cc in
         rw (← k) h.fit
 
-    flag : (n : ℕ) (d : Bool) → Parts b.count (both b.opened (ltb 0 b.count)) ≡ Parts n d → d ≡ both b.opened (ltb 0 n)
-    flag n d e =
-        let k : b.count ≡ n = cc in
-        let f : both b.opened (ltb 0 b.count) ≡ d = cc in
-        sym f ∙ rw k
+    flag : (p : Parts) → ◌≡◌ {A = Cut} (Ok ended) (Ok p) → p.opened ≡ both b.opened (ltb 0 p.count)
+    flag p e =
+        let k : ended ≡ p = cc in
+        rw (← k) refl
 
 -- a refusal shows no parts
-refused : (path : List ℕ) (r : Cut) (ss ls : List ℕ) (opened : Bool) → ((n : ℕ) (d : Bool) → r ≡ Parts n d → ⊥) → CutShows path (cutout r ss ls) (shown_cut path r ss ls) opened
-refused path r ss ls opened h = record { shows = refl; fits = λ n d e. absurd (h n d e); flag = λ n d e. absurd (h n d e) }
+refused : (path : List ℕ) (r : Cut) (ss ls : List ℕ) (opened : Bool) → ((p : Parts) → r ≡ Ok p → ⊥) → CutShows path (cutout r ss ls) (shown_cut path r ss ls) opened
+refused path r ss ls opened h = record { shows = refl; fits = λ p e. absurd (h p e); flag = λ p e. absurd (h p e) }
 
-not-parts : (n : ℕ) (d : Bool) → NotPermitted ≡ Parts n d → ⊥
-not-parts n d e = let z : ◌≡◌ {A = ℕ} 0 1 = cc in omega arith
-
-long-not-parts : (n : ℕ) (d : Bool) → TooLong ≡ Parts n d → ⊥
-long-not-parts n d e = let z : ◌≡◌ {A = ℕ} 0 1 = cc in omega arith
+not-parts : {e : PathError} → (p : Parts) → ◌≡◌ {A = Cut} (Err e) (Ok p) → ⊥
+not-parts p h = cc
 
 walked-sorted : (path : List ℕ) (at : ℕ) (b : Bounds) (p : List ℕ) (rest : List (List ℕ)) → Held path at b → Lie path at (p ∷ rest)
     → ((b' : Bounds) → Held path (at + length p + 1) b' → Walked path (at + length p + 1) b' rest) → {s : Sort} → Sorted p s → Walked path at b (p ∷ rest)
@@ -129,9 +130,9 @@ unfolding Walked walk_bounds walk shown_of opened_after Lie pick either dropped
 walked-sorted path at b p rest h l more (is-dropped d) = rw d (more (passed b) (held-passed path at b h (length p) l.1))
 walked-sorted path at b p rest h l more (is-upward d u) = rw (d, u, shown-less path b.starts b.lengths b.count, length-shown path b.starts b.lengths b.count) (go (eqb b.count 0))
   where
-    go : (t : Bool) → CutShows path (pick t (cutout NotPermitted b.starts b.lengths) (walk_bounds (at + length p + 1) (less_one b) rest))
+    go : (t : Bool) → CutShows path (pick t (cutout (Err NotPermitted) b.starts b.lengths) (walk_bounds (at + length p + 1) (less_one b) rest))
         (pick t not_permitted (walk (shown_parts path b.starts b.lengths (b.count - 1)) rest)) (opened_after true rest)
-    go true = refused path NotPermitted b.starts b.lengths (opened_after true rest) not-parts
+    go true = refused path (Err NotPermitted) b.starts b.lengths (opened_after true rest) not-parts
     go false = more (less_one b) (held-less path at b h (length p) l.1)
 walked-sorted path at b p rest h l more (is_plain_name d u) =
     let n : 0 < length p = kept-some p d in
@@ -167,22 +168,22 @@ module _ (path ss ls : List ℕ) (room_s : length ss ≡ most_parts) (room_l : l
   unfolding cut_bounds cut_path pick
   cut-told e = rw e (go (ltb most_path (length path)) (eqb (get_or path 0 0) slash) refl)
     where
-      go : (t u : Bool) → ltb most_path (length path) ≡ t → CutShows path (pick t (cutout TooLong ss ls) (pick u (cutout NotPermitted ss ls) (walk_bounds 0 (bounds ss ls 0 true) (split path))))
+      go : (t u : Bool) → ltb most_path (length path) ≡ t → CutShows path (pick t (cutout (Err TooLong) ss ls) (pick u (cutout (Err NotPermitted) ss ls) (walk_bounds 0 (bounds ss ls 0 true) (split path))))
           (pick t too_long (pick u not_permitted (walk [] (split path)))) (ends_open path)
-      go true u h = refused path TooLong ss ls (ends_open path) long-not-parts
-      go false true h = refused path NotPermitted ss ls (ends_open path) not-parts
+      go true u h = refused path (Err TooLong) ss ls (ends_open path) not-parts
+      go false true h = refused path (Err NotPermitted) ss ls (ends_open path) not-parts
       go false false h = told-walk (ltb-false _ _ h)
 
   -- what the bounds show is the definition over lists
   pub cut-shows : shown_cut path (cut_bounds path ss ls).cut (cut_bounds path ss ls).starts (cut_bounds path ss ls).lengths ≡ cut_path path
   cut-shows = (cut-told refl).shows
 
-  module _ (n : ℕ) (d : Bool) (e : (cut_bounds path ss ls).cut ≡ Parts n d) where
-    pub cut_fits : BoundsFit path (cut_bounds path ss ls).starts (cut_bounds path ss ls).lengths n
-    cut_fits = (cut-told refl).fits n d e
+  module _ (p : Parts) (e : (cut_bounds path ss ls).cut ≡ Ok p) where
+    pub cut_fits : BoundsFit path (cut_bounds path ss ls).starts (cut_bounds path ss ls).lengths p.count
+    cut_fits = (cut-told refl).fits p e
 
-    pub cut-flag : d ≡ both (ends_open path) (ltb 0 n)
-    cut-flag = (cut-told refl).flag n d e
+    pub cut-flag : p.opened ≡ both (ends_open path) (ltb 0 p.count)
+    cut-flag = (cut-told refl).flag p e
 
 -- the contract's equation leaves one outcome
 pub one-cut : (path ss ls : List ℕ) → OneOutcome (cut_bounds path ss ls)

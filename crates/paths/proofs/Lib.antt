@@ -1,9 +1,10 @@
 pub mod Sorts
 pub mod Names
-pub mod Scan
+pub mod Splitting
 pub mod Walk
+pub mod Pieces
 pub mod Shown
 pub mod Bounds
-pub mod Parts
+pub mod PartNames
 pub mod Behind
 pub mod BoundaryRows

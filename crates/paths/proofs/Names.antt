@@ -1,26 +1,23 @@
 -- Which names are allowed: what the test means, and by what the code finds out.
 -- Assumes nothing.
 use mathlib.Core.Path.{◌≡◌, refl, sym, ap, ◌∙◌}
-use mathlib.Core.Bool.{Bool, true, false, not, false≢true}
+use mathlib.Core.Bool.{Bool, true, false, not, ◌||◌, false≢true}
+use Rattle.std.specs.List.{list_any}
 use mathlib.Core.Logic.{⊎_elim}
 use mathlib.Core.List.{List, [], ◌∷◌}
-use Prim.Native.Nat.{ℕ, zero, suc, ◌≤◌, ◌<◌}
-use native.Mathlib.Nat.{not-suc-le-zero, le_of_suc-le-suc}
+use Prim.Native.Nat.{ℕ, ◌≤◌, ◌<◌}
 use native.Mathlib.Omega.{arith}
 use lib.Dec.{eqb}
-use borrow.Author.Tests.{eq-eqb}
-use lib.ListN.{length, get_or}
-use lib.Seq.{take-length}
-use Rattle.words.specs.Bytes.{part}
+use lib.ListN.{length}
 use Rattle.words.specs.Rules.{both, same, Says, holds, fails}
-use Rattle.words.proofs.Joined.{both_false, either-false, either_true}
+use Rattle.words.proofs.Joined.{either-false, either_true}
 use Rattle.words.proofs.Rules.{says-true, true-says, false-says, says_map, says_both, says-leb, says-not}
 use Rattle.words.proofs.Blocks.{says_same}
 use Rattle.types.specs.Sizes.{most_name}
 use Rattle.paths.specs.declared.Sort.{Sort}
 use Rattle.paths.specs.declared.Sort.TheVariants.{Dropped, Upward, Name}
 use Rattle.paths.specs.Path.{slash, dot, dropped, upward, no_slash, IsPart, name_allowed}
-use Rattle.paths.specs.Pieces.{Pieced, sort_of}
+use Rattle.paths.specs.Pieces.{sort_of}
 use Rattle.paths.proofs.Sorts.{Sorted, is-dropped, is-upward, is_plain_name, sorted}
 
 says-whole : (p : List ℕ) → Says (no_slash p ≡ true) (no_slash p)
@@ -67,15 +64,18 @@ no-part-upward : (p : List ℕ) → upward p ≡ true → IsPart p → ⊥
 unfolding upward
 no-part-upward p u h = h.no_dots (says-true (says_same p (dot ∷ dot ∷ [])) u)
 
-slash-in : (p : List ℕ) (i : ℕ) → i < length p → get_or p i 0 ≡ slash → no_slash p ≡ false
-unfolding no_slash both
-slash-in [] i h e = absurd (not-suc-le-zero h)
-slash-in (x ∷ p) zero h e = rw (eq-eqb x slash e)
-slash-in (x ∷ p) (suc i) h e = rw (slash-in p i (le_of_suc-le-suc h) e) (both_false (not (eqb x slash)))
-
 -- ---- what `name_allowed` finds
 
-abbrev is_name : Sort → Bool
+any-slash : (p : List ℕ) → not (list_any (λ b. eqb b slash) p) ≡ no_slash p
+unfolding no_slash both
+any-slash [] = refl
+any-slash (x ∷ p) = go (eqb x slash) (any-slash p)
+  where
+    go : (t : Bool) → not (list_any (λ b. eqb b slash) p) ≡ no_slash p → not (t || list_any (λ b. eqb b slash) p) ≡ both (not t) (no_slash p)
+    go true e = refl
+    go false e = e
+
+abbrev pub is_name : Sort → Bool
 is_name Dropped = false
 is_name Upward = false
 is_name Name = true
@@ -84,18 +84,15 @@ module _ (n : List ℕ) where
   pub name-long : most_name < length n → false ≡ name_allowed n
   name-long h = sym (false-says (says-name n) (λ q. omega arith))
 
-  pub name-slash : {i : ℕ} → i < length n → get_or n i 0 ≡ slash → false ≡ name_allowed n
-  name-slash {i} h e = sym (false-says (says-name n) (λ q. false≢true (sym (slash-in n i h e) ∙ q.0.whole)))
+  -- a slash is in it
+  pub name-slash : {t : Bool} → t ≡ list_any (λ b. eqb b slash) n → t ≡ true → not t ≡ name_allowed n
+  name-slash e h = ap not h ∙ sym (false-says (says-name n) (λ q. false≢true (ap not (sym h ∙ e) ∙ any-slash n ∙ q.0.whole)))
 
   name-sorted : {s : Sort} → length n ≤ most_name → no_slash n ≡ true → Sorted n s → is_name s ≡ name_allowed n
   name-sorted h k (is-dropped d) = sym (false-says (says-name n) (λ q. no-part-dropped n d q.0))
   name-sorted h k (is-upward d u) = sym (false-says (says-name n) (λ q. no-part-upward n u q.0))
   name-sorted h k (is_plain_name d u) = sym (true-says (says-name n) (named n k d u, h))
 
-  -- a piece that is the whole name
-  pub name-by-sort : (k dots : ℕ) {s : Sort} → length n ≤ most_name → Pieced n 0 k dots → k ≡ length n → s ≡ sort_of (length n) dots → is_name s ≡ name_allowed n
-  unfolding part
-  name-by-sort k dots h p a e =
-      let w : part n 0 k ≡ n = rw a (take-length n) in
-      let f : Sorted n (sort_of (length n) dots) = rw (p.dotted, w) (sorted n) in
-      rw e (name-sorted h (rw w at p.whole) f)
+  -- none is: its sort decides
+  pub name-by-sort : {t : Bool} {s : Sort} → length n ≤ most_name → t ≡ list_any (λ b. eqb b slash) n → t ≡ false → s ≡ sort_of n → is_name s ≡ name_allowed n
+  name-by-sort h e k z = rw z (name-sorted h (sym (any-slash n) ∙ ap not (sym e ∙ k)) (sorted n))

@@ -15,7 +15,7 @@ use Rattle.words.specs.Rules.{pick}
 use Rattle.words.proofs.Parts.{part-zero, part-cons}
 use Rattle.paths.specs.Path.{slash, cons, split}
 use Rattle.paths.specs.Shown.{shown_from, shown_parts}
-use Rattle.paths.proofs.Scan.{split-some}
+use Rattle.paths.proofs.Splitting.{split-some}
 
 module _ (path ss ls : List ℕ) where
   length-shown-from : (i n : ℕ) → length (shown_from path ss ls i n) ≡ n

@@ -1,79 +1,80 @@
--- What sort a piece is of, by its length and its number of dots, and by its bytes.
+-- What sort a piece is of, by its bytes.
 -- Assumes nothing.
-use mathlib.Core.Path.{◌≡◌, refl, ap, ◌∙◌}
+use mathlib.Core.Path.{◌≡◌, refl}
 use mathlib.Core.Bool.{Bool, true, false}
 use mathlib.Core.List.{List, [], ◌∷◌}
-use Prim.Native.Nat.{ℕ, zero, suc, ◌+◌, ◌≤◌, ◌<◌}
+use Prim.Native.Nat.{ℕ, ◌≤◌, ◌<◌}
 use native.Mathlib.Omega.{arith}
 use lib.Dec.{eqb}
-use borrow.Author.Tests.{eq-eqb, ne_eqb, le-leb, lt-leb, eqb-true, eqb-false}
-use lib.ListN.{length}
-use Rattle.words.specs.Rules.{pick, both, either, bit, times, count, same}
+use borrow.Author.Tests.{ne_eqb}
+use lib.ListN.{length, get_or}
+use Rattle.words.specs.Rules.{pick, both, either, same}
 use Rattle.words.proofs.Joined.{both_false}
-use Rattle.words.proofs.Rules.{pick_true, pick-false}
 use Rattle.paths.specs.declared.Sort.{Sort}
 use Rattle.paths.specs.declared.Sort.TheVariants.{Dropped, Upward, Name}
 use Rattle.paths.specs.Path.{dot, dropped, upward}
 use Rattle.paths.specs.Pieces.{sort_of}
 
--- ---- the sort that a length and dots mean
+-- ---- the sort that the code finds
 
-pub sort-mixed : (n dots : ℕ) → (n ≡ dots → ⊥) → Name ≡ sort_of n dots
-unfolding sort_of
-sort-mixed n dots h = pick-false _ _ _ _ (ne_eqb n dots h) refl
+pub sort-empty : (p : List ℕ) → length p < 1 → Dropped ≡ sort_of p
+unfolding sort_of dropped either same pick
+sort-empty [] h = refl
+sort-empty (x ∷ p) h = absurd (omega arith)
 
-pub sort-short : (n dots : ℕ) → n ≡ dots → n ≤ 1 → Dropped ≡ sort_of n dots
-unfolding sort_of
-sort-short n dots e h = pick_true _ _ _ _ (eq-eqb n dots e) (pick_true _ _ _ _ (le-leb n 1 h) refl)
+pub sort-dot : (p : List ℕ) → 1 ≤ length p → length p < 2 → get_or p 0 0 ≡ dot → Dropped ≡ sort_of p
+unfolding sort_of dropped either both same pick
+sort-dot [] h k e = absurd (omega arith)
+sort-dot (x ∷ []) h k e = rw e refl
+sort-dot (x ∷ y ∷ p) h k e = absurd (omega arith)
 
-pub sort-upward : (n dots : ℕ) → n ≡ dots → n ≡ 2 → Upward ≡ sort_of n dots
-unfolding sort_of
-sort-upward n dots e h = pick_true _ _ _ _ (eq-eqb n dots e) (pick-false _ _ _ _ (lt-leb n 1 (omega arith)) (pick_true _ _ _ _ (eq-eqb n 2 h) refl))
+pub sort-dots : (p : List ℕ) → 2 ≤ length p → length p < 3 → get_or p 0 0 ≡ dot → get_or p 1 0 ≡ dot → Upward ≡ sort_of p
+unfolding sort_of dropped upward either both same pick
+sort-dots [] h k e f = absurd (omega arith)
+sort-dots (x ∷ []) h k e f = absurd (omega arith)
+sort-dots (x ∷ y ∷ []) h k e f = rw (e, f) refl
+sort-dots (x ∷ y ∷ z ∷ p) h k e f = absurd (omega arith)
 
-pub sort-long : (n dots : ℕ) → n ≡ dots → 2 < n → Name ≡ sort_of n dots
-unfolding sort_of
-sort-long n dots e h = pick_true _ _ _ _ (eq-eqb n dots e) (pick-false _ _ _ _ (lt-leb n 1 (omega arith)) (pick-false _ _ _ _ (ne_eqb n 2 (λ x. omega arith)) refl))
+pub sort-first : (p : List ℕ) → 1 ≤ length p → (get_or p 0 0 ≡ dot → ⊥) → Name ≡ sort_of p
+unfolding sort_of dropped upward either both same pick
+sort-first [] h n = absurd (omega arith)
+sort-first (x ∷ p) h n = rw (ne_eqb x dot n) refl
+
+pub sort-second : (p : List ℕ) → 2 ≤ length p → (get_or p 1 0 ≡ dot → ⊥) → Name ≡ sort_of p
+unfolding sort_of dropped upward either both same pick
+sort-second [] h n = absurd (omega arith)
+sort-second (x ∷ []) h n = absurd (omega arith)
+sort-second (x ∷ y ∷ p) h n = rw (both_false (eqb x dot), ne_eqb y dot n, both_false (eqb x dot)) refl
+
+pub sort-long : (p : List ℕ) → 3 ≤ length p → Name ≡ sort_of p
+unfolding sort_of dropped upward either both same pick
+sort-long [] h = absurd (omega arith)
+sort-long (x ∷ []) h = absurd (omega arith)
+sort-long (x ∷ y ∷ []) h = absurd (omega arith)
+sort-long (x ∷ y ∷ z ∷ p) h = rw (both_false (eqb x dot), both_false (eqb y dot), both_false (eqb x dot)) refl
 
 -- a name is not empty
-pub name-some : (n dots : ℕ) → dots ≤ n → Name ≡ sort_of n dots → 0 < n
-name-some zero dots h e =
-    let d : Dropped ≡ sort_of 0 dots = sort-short 0 dots (omega arith) (omega arith) in
-    let z : ◌≡◌ {A = ℕ} 0 1 = cc in omega arith
-name-some (suc n) dots h e = omega arith
+pub name_some : (p : List ℕ) → Name ≡ sort_of p → 0 < length p
+unfolding sort_of dropped either same pick
+name_some [] e = absurd (cc)
+name_some (x ∷ p) e = omega arith
 
--- ---- the same by its bytes
+-- ---- the same by its definition
 
 pub data Sorted (p : List ℕ) : Sort → Type 0 where
   is-dropped : dropped p ≡ true → Sorted p Dropped
   is-upward : dropped p ≡ false → upward p ≡ true → Sorted p Upward
   is_plain_name : dropped p ≡ false → upward p ≡ false → Sorted p Name
 
-sorted-one : (x : ℕ) (t : Bool) → eqb x dot ≡ t → Sorted (x ∷ []) (sort_of 1 (bit t + 0))
-unfolding dropped upward either both same bit sort_of pick
-sorted-one x true e = is-dropped (rw e)
-sorted-one x false e = is_plain_name (rw e) (rw e)
-
-sorted-two : (x y : ℕ) (s t : Bool) → eqb x dot ≡ s → eqb y dot ≡ t → Sorted (x ∷ y ∷ []) (sort_of 2 (bit s + (bit t + 0)))
-unfolding dropped upward either both same bit sort_of pick
-sorted-two x y true true e f = is-upward (rw e) (rw (e, f))
-sorted-two x y true false e f = is_plain_name (rw e) (rw (e, f))
-sorted-two x y false true e f = is_plain_name (rw e) (rw e)
-sorted-two x y false false e f = is_plain_name (rw e) (rw e)
-
-sorted_more : (x y z : ℕ) (p : List ℕ) (dots : ℕ) → Sorted (x ∷ y ∷ z ∷ p) (sort_of (suc (suc (suc (length p)))) dots)
-unfolding dropped upward either same
-sorted_more x y z p dots = go (eqb (suc (suc (suc (length p)))) dots) refl
+pub sorted : (p : List ℕ) → Sorted p (sort_of p)
+unfolding sort_of pick
+sorted p = go (dropped p) (upward p) refl refl
   where
-    name : Sorted (x ∷ y ∷ z ∷ p) Name
-    name = is_plain_name (both_false (eqb x dot)) (ap (both (eqb x dot)) (both_false (eqb y dot)) ∙ both_false (eqb x dot))
+    go : (d u : Bool) → dropped p ≡ d → upward p ≡ u → Sorted p (pick d Dropped (pick u Upward Name))
+    go true u e f = is-dropped e
+    go false true e f = is-upward e f
+    go false false e f = is_plain_name e f
 
-    go : (t : Bool) → eqb (suc (suc (suc (length p)))) dots ≡ t → Sorted (x ∷ y ∷ z ∷ p) (sort_of (suc (suc (suc (length p)))) dots)
-    go true e = rw (← sort-long (suc (suc (suc (length p)))) dots (eqb-true _ _ e) (omega arith)) name
-    go false e = rw (← sort-mixed (suc (suc (suc (length p)))) dots (eqb-false _ _ e)) name
+-- ---- what the code needs
 
-pub sorted : (p : List ℕ) → Sorted p (sort_of (length p) (count dot p))
-unfolding count times
-sorted [] = unfold dropped either same sort_of pick in is-dropped refl
-sorted (x ∷ []) = sorted-one x (eqb x dot) refl
-sorted (x ∷ y ∷ []) = sorted-two x y (eqb x dot) (eqb y dot) refl refl
-sorted (x ∷ y ∷ z ∷ p) = sorted_more x y z p (count dot (x ∷ y ∷ z ∷ p))
+pub ruleset sorts = (sort-empty, sort-dot, sort-dots, sort-first, sort-second, sort-long)

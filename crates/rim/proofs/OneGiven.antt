@@ -1,17 +1,16 @@
 -- What a call gives, from the answer that it has; and that a contract leaves one number, one content of the memory and one count.
 -- Assumes nothing.
+use Rattle.std.specs.Prelude.{Result, Ok, Err}
 use mathlib.Core.Path.{◌≡◌, refl, sym, ap, ◌∙◌}
 use mathlib.Core.List.{List}
 use Prim.Native.Nat.{ℕ}
 use Rattle.types.specs.Answers.{error_number, number, value}
 use Rattle.types.specs.Outcomes.{Outcome, outcome}
-use Rattle.types.specs.declared.Answer.{Answer}
+use Rattle.types.specs.Answers.{Answer}
 use Rattle.types.specs.declared.Error.{Error}
 use Rattle.types.specs.declared.Search.{Search}
-use Rattle.types.specs.declared.Search.TheVariants as search
+use Rattle.types.specs.declared.Search.TheVariants.{Found, Absent, Stopped}
 use Rattle.lentilraft.specs.declared.naming.NameAt.{NameAt}
-use Rattle.lentilraft.specs.declared.naming.NextName.{NextName}
-use Rattle.lentilraft.specs.declared.naming.NextName.TheVariants.{At, Refused}
 use Rattle.rim.specs.Given.{Gives, GivesCount, GivesValue, GivesName, GivesSearch}
 
 -- ---- given
@@ -27,26 +26,24 @@ pub gives-value : {a b : Answer} {r c : ℕ} → a ≡ b → r ≡ number a → 
 gives-value e h k = record { number = h ∙ ap number e; told = k ∙ ap value e }
 
 -- next entry's parts, and its refusal
-module _ {n o : NextName} (e : n ≡ o) where
-  pub gives-name : {x : NameAt} → n ≡ At x → GivesName o 0 x.at x.long x.index x.node
-  gives-name k = rw (← e, k) (record { number = refl; start = refl; length = refl; indexed = refl; noded = refl })
+pub gives-name : {o : Result NameAt Error} {x : NameAt} → Ok x ≡ o → GivesName o 0 x.at x.long x.index x.node
+gives-name e = rw (← e) (record { number = refl; start = refl; length = refl; indexed = refl; noded = refl })
 
-  pub gives-no-name : {x : Error} {r : ℕ} → n ≡ Refused x → r ≡ error_number x → GivesName o r 0 0 0 0
-  gives-no-name k h = rw (← e, k) (record { number = h; start = refl; length = refl; indexed = refl; noded = refl })
+pub gives-no-name : {o : Result NameAt Error} {x : Error} {r : ℕ} → Err x ≡ o → r ≡ error_number x → GivesName o r 0 0 0 0
+gives-no-name e h = rw (← e) (record { number = h; start = refl; length = refl; indexed = refl; noded = refl })
 
 -- the four cases of a search
-module _ {s o : Search} (e : s ≡ o) where
-  pub gives_found : {i n k : ℕ} → s ≡ search.Found i n k → GivesSearch o 0 1 i n k
-  gives_found k = rw (← e, k) (record { number = refl; case = refl; indexed = refl; noded = refl; counted = refl })
+pub gives_found : {o : Result Search Error} {i n k : ℕ} → Ok (Found i n k) ≡ o → GivesSearch o 0 1 i n k
+gives_found e = rw (← e) (record { number = refl; case = refl; indexed = refl; noded = refl; counted = refl })
 
-  pub gives-absent : {k : ℕ} → s ≡ search.Absent k → GivesSearch o 0 0 0 0 k
-  gives-absent k = rw (← e, k) (record { number = refl; case = refl; indexed = refl; noded = refl; counted = refl })
+pub gives-absent : {o : Result Search Error} {k : ℕ} → Ok (Absent k) ≡ o → GivesSearch o 0 0 0 0 k
+gives-absent e = rw (← e) (record { number = refl; case = refl; indexed = refl; noded = refl; counted = refl })
 
-  pub gives-stopped : {i k : ℕ} → s ≡ search.Stopped i k → GivesSearch o 0 2 i 0 k
-  gives-stopped k = rw (← e, k) (record { number = refl; case = refl; indexed = refl; noded = refl; counted = refl })
+pub gives-stopped : {o : Result Search Error} {i k : ℕ} → Ok (Stopped i k) ≡ o → GivesSearch o 0 2 i 0 k
+gives-stopped e = rw (← e) (record { number = refl; case = refl; indexed = refl; noded = refl; counted = refl })
 
-  pub gives-no-search : {x : Error} {r : ℕ} → s ≡ search.Refused x → r ≡ error_number x → GivesSearch o r 0 0 0 0
-  gives-no-search k h = rw (← e, k) (record { number = h; case = refl; indexed = refl; noded = refl; counted = refl })
+pub gives-no-search : {o : Result Search Error} {x : Error} {r : ℕ} → Err x ≡ o → r ≡ error_number x → GivesSearch o r 0 0 0 0
+gives-no-search e h = rw (← e) (record { number = h; case = refl; indexed = refl; noded = refl; counted = refl })
 
 -- ---- one outcome
 
@@ -59,8 +56,8 @@ one-counted a b = (a.number ∙ sym b.number, a.bytes ∙ sym b.bytes, a.count �
 pub one-valued : {a : Answer} {r s c d : ℕ} → GivesValue a r c → GivesValue a s d → (r ≡ s) × (c ≡ d)
 one-valued a b = (a.number ∙ sym b.number, a.told ∙ sym b.told)
 
-pub one-named : {n : NextName} {r s a b l m i j x y : ℕ} → GivesName n r a l i x → GivesName n s b m j y → (r ≡ s) × (a ≡ b) × (l ≡ m) × (i ≡ j) × (x ≡ y)
+pub one-named : {n : Result NameAt Error} {r s a b l m i j x y : ℕ} → GivesName n r a l i x → GivesName n s b m j y → (r ≡ s) × (a ≡ b) × (l ≡ m) × (i ≡ j) × (x ≡ y)
 one-named p q = (p.number ∙ sym q.number, p.start ∙ sym q.start, p.length ∙ sym q.length, p.indexed ∙ sym q.indexed, p.noded ∙ sym q.noded)
 
-pub one-searched : {o : Search} {r s f g i j x y k l : ℕ} → GivesSearch o r f i x k → GivesSearch o s g j y l → (r ≡ s) × (f ≡ g) × (i ≡ j) × (x ≡ y) × (k ≡ l)
+pub one-searched : {o : Result Search Error} {r s f g i j x y k l : ℕ} → GivesSearch o r f i x k → GivesSearch o s g j y l → (r ≡ s) × (f ≡ g) × (i ≡ j) × (x ≡ y) × (k ≡ l)
 one-searched p q = (p.number ∙ sym q.number, p.case ∙ sym q.case, p.indexed ∙ sym q.indexed, p.noded ∙ sym q.noded, p.counted ∙ sym q.counted)

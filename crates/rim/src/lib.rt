@@ -3,7 +3,6 @@
 #![tactic(auto)]
 
 ghost use Rattle.std.specs.Prelude.{◌≡◌};
-ghost use Rattle.types.specs.declared.Limit.TheVariants.{Unlimited, AtMost};
 ghost use Rattle.types.specs.Answers.{number};
 ghost use Rattle.allocator.specs.Opening.{opened};
 ghost use Rattle.volume.specs.Fresh.{new_volume};
@@ -12,8 +11,7 @@ ghost use Rattle.lentilraft.specs.EntryGiven.{next_name};
 ghost use Rattle.lentilraft.specs.Report.{report};
 ghost use Rattle.rim.specs.Given.{Gives, GivesCount, GivesValue, GivesName, GivesSearch};
 
-use lentilraft::NextName;
-use types::{Limit, Search};
+use types::Search;
 
 // What came of a search.
 const ABSENT: u32 = 0;
@@ -82,16 +80,16 @@ pub fn lentilraft_report(volume: &[u8], out: &mut [u8], count: &mut u64) -> u32
 
 // Sets a file's limit.
 pub fn lentilraft_set_limit(volume: &mut [u8], node: u64, limit: u64) -> u32
-    ensures { Gives (set_limit node (AtMost limit) volume.old) result volume.new }
+    ensures { Gives (set_limit node (Some limit) volume.old) result volume.new }
 {
-    types::number(lentilraft::set_limit(volume, node, Limit::AtMost(limit)))
+    types::number(lentilraft::set_limit(volume, node, Some(limit)))
 }
 
 // Takes a file's limit away.
 pub fn lentilraft_clear_limit(volume: &mut [u8], node: u64) -> u32
-    ensures { Gives (set_limit node Unlimited volume.old) result volume.new }
+    ensures { Gives (set_limit node None volume.old) result volume.new }
 {
-    types::number(lentilraft::set_limit(volume, node, Limit::Unlimited))
+    types::number(lentilraft::set_limit(volume, node, None))
 }
 
 // Gives a file another size. What it gains reads zero.
@@ -139,19 +137,19 @@ pub fn lentilraft_next_entry(
     ensures { GivesName (next_name directory from volume.now) result at.new length.new index.new node.new }
 {
     match lentilraft::next_name(volume, directory, from) {
-        NextName::At(name) => {
+        Ok(name) => {
             *at = name.at as u64;
             *length = name.long as u64;
             *index = name.index;
             *node = name.node;
             0
         }
-        NextName::Refused(error) => {
+        Err(error) => {
             *at = 0;
             *length = 0;
             *index = 0;
             *node = 0;
-            types::error_number(error)
+            u32::from(error)
         }
     }
 }
@@ -177,24 +175,24 @@ pub fn lentilraft_search(
     *node = 0;
     *looked = 0;
     match lentilraft::search(volume, directory, name, from, most) {
-        Search::Found(at, named, count) => {
+        Ok(Search::Found(at, named, count)) => {
             *found = FOUND;
             *index = at;
             *node = named;
             *looked = count;
             0
         }
-        Search::Absent(count) => {
+        Ok(Search::Absent(count)) => {
             *looked = count;
             0
         }
-        Search::Stopped(at, count) => {
+        Ok(Search::Stopped(at, count)) => {
             *found = STOPPED;
             *index = at;
             *looked = count;
             0
         }
-        Search::Refused(error) => types::error_number(error),
+        Err(error) => u32::from(error),
     }
 }
 

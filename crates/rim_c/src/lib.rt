@@ -2,7 +2,6 @@
 #![tactic(auto)]
 
 ghost use Rattle.std.specs.Prelude.{◌≡◌};
-ghost use Rattle.types.specs.declared.Limit.TheVariants.{Unlimited, AtMost};
 ghost use Rattle.types.specs.Answers.{number};
 ghost use Rattle.allocator.specs.Opening.{opened};
 ghost use Rattle.volume.specs.Fresh.{new_volume};
@@ -74,7 +73,7 @@ pub extern "C" fn lentilraft_report(volume: &[u8], out: &mut [u8], count: &mut u
 // Sets a file's limit.
 #[unsafe(no_mangle)]
 pub extern "C" fn lentilraft_set_limit(volume: &mut [u8], node: u64, limit: u64) -> u32
-    ensures { Gives (set_limit node (AtMost limit) volume.old) result volume.new }
+    ensures { Gives (set_limit node (Some limit) volume.old) result volume.new }
 {
     rim::lentilraft_set_limit(volume, node, limit)
 }
@@ -82,7 +81,7 @@ pub extern "C" fn lentilraft_set_limit(volume: &mut [u8], node: u64, limit: u64)
 // Takes a file's limit away.
 #[unsafe(no_mangle)]
 pub extern "C" fn lentilraft_clear_limit(volume: &mut [u8], node: u64) -> u32
-    ensures { Gives (set_limit node Unlimited volume.old) result volume.new }
+    ensures { Gives (set_limit node None volume.old) result volume.new }
 {
     rim::lentilraft_clear_limit(volume, node)
 }

@@ -44,17 +44,6 @@ const LETTERS: u64 = 4;
 
 const DIGITS: u64 = 32;
 
-// What is drawn for one call. The last number is what the next call is drawn from.
-#[derive(Clone, Copy)]
-pub(crate) struct Draw {
-    pub kind: u64,
-    pub node: u64,
-    pub other: u64,
-    pub place: u64,
-    pub length: u64,
-    pub text: u64,
-}
-
 #[derive(Clone, Copy)]
 pub(crate) enum Kind {
     Read,
@@ -74,19 +63,33 @@ pub(crate) enum Kind {
     NewVolume,
 }
 
-pub(crate) fn drawn(state: u64) -> Draw {
-    let kind = joined(state, 0);
-    let node = joined(kind, 0);
-    let other = joined(node, 0);
-    let place = joined(other, 0);
-    let length = joined(place, 0);
-    Draw {
-        kind: kind,
-        node: node,
-        other: other,
-        place: place,
-        length: length,
-        text: joined(length, 0),
+// What is drawn for one call. The last number is what the next call is drawn from.
+#[derive(Clone, Copy)]
+pub(crate) struct Draw {
+    pub kind: Kind,
+    pub node: u64,
+    pub other: u64,
+    pub place: u64,
+    pub length: u64,
+    pub text: u64,
+}
+
+impl Draw {
+    // What is drawn from a number.
+    pub(crate) fn new(state: u64) -> Draw {
+        let kind = joined(state, 0);
+        let node = joined(kind, 0);
+        let other = joined(node, 0);
+        let place = joined(other, 0);
+        let length = joined(place, 0);
+        Draw {
+            kind: kind_of(kind),
+            node,
+            other,
+            place,
+            length,
+            text: joined(length, 0),
+        }
     }
 }
 
@@ -96,9 +99,8 @@ pub(crate) fn joined(state: u64, number: u64) -> u64 {
 }
 
 // Which call, and how often each is drawn.
-pub(crate) fn kind_of(draw: Draw) -> Kind {
-    let n = draw.kind % CALLS;
-    match n {
+fn kind_of(draw: u64) -> Kind {
+    match draw % CALLS {
         0..=4 => Kind::Read,
         5..=16 => Kind::Write,
         17..=22 => Kind::Resize,
@@ -121,18 +123,22 @@ pub(crate) fn kind_of(draw: Draw) -> Kind {
 pub(crate) fn chunks(n: u64, span: u64) -> u64
     ensures { result ≤ 262144 }
 {
+    n % (WINDOW + 1) * accepted(span)
+}
+
+// The span if it is a chunk size, or else the greatest that there is.
+fn accepted(span: u64) -> u64
+    ensures { result ≤ 65536 }
+{
     match span {
-        SIZE_4K => n % (WINDOW + 1) * SIZE_4K,
-        SIZE_8K => n % (WINDOW + 1) * SIZE_8K,
-        SIZE_16K => n % (WINDOW + 1) * SIZE_16K,
-        SIZE_32K => n % (WINDOW + 1) * SIZE_32K,
-        _ => n % (WINDOW + 1) * SIZE_64K,
+        SIZE_4K | SIZE_8K | SIZE_16K | SIZE_32K => span,
+        _ => SIZE_64K,
     }
 }
 
+// A chunk size, or a number that is none.
 pub(crate) fn chunk_size(draw: u64) -> u64 {
-    let n = draw % 6;
-    match n {
+    match draw % 6 {
         0 => SIZE_4K,
         1 => SIZE_8K,
         2 => SIZE_16K,
@@ -144,40 +150,35 @@ pub(crate) fn chunk_size(draw: u64) -> u64 {
 
 // A byte of a file, a size or a limit: next to the end of a chunk, anywhere in the window, or next to the greatest size.
 pub(crate) fn place(draw: u64, span: u64) -> u64 {
-    let n = draw % 8;
     let rest = draw / 8;
-    match n {
+    match draw % 8 {
         0 => around(types::MOST_SIZE, rest),
         1..=2 => rest % (chunks(WINDOW, span) + 1),
         _ => around(chunks(rest / AROUND, span), rest),
     }
 }
 
-// A place next to an edge.
+// A place next to an edge, or behind one that has no room before it.
 fn around(edge: u64, draw: u64) -> u64
     requires { edge ≤ 1099511627776 }
 {
-    if edge < BEFORE {
-        return edge + draw % AROUND;
-    }
-    edge - BEFORE + draw % AROUND
+    edge.checked_sub(BEFORE).unwrap_or(edge) + draw % AROUND
 }
 
 // How many bytes a call is lent: the data of a read or write, a name, a path, an output.
-pub(crate) fn lent(kind: Kind, draw: u64, span: u64) -> u64 {
-    match kind {
-        Kind::Read | Kind::Write => data_length(draw, span),
-        Kind::Create | Kind::Link | Kind::Search => name_length(draw),
-        Kind::Find | Kind::Unlink => path_length(draw),
-        Kind::Report => around(LEAST_OUTPUT, draw),
+pub(crate) fn lent(draw: Draw, span: u64) -> u64 {
+    match draw.kind {
+        Kind::Read | Kind::Write => data_length(draw.length, span),
+        Kind::Create | Kind::Link | Kind::Search => name_length(draw.length),
+        Kind::Find | Kind::Unlink => path_length(draw.length),
+        Kind::Report => around(LEAST_OUTPUT, draw.length),
         _ => 0,
     }
 }
 
 fn data_length(draw: u64, span: u64) -> u64 {
-    let n = draw % 8;
     let rest = draw / 8;
-    match n {
+    match draw % 8 {
         0 => 0,
         1..=4 => 1 + rest % FEW,
         5 => around(chunks(1, span), rest),
@@ -186,8 +187,7 @@ fn data_length(draw: u64, span: u64) -> u64 {
 }
 
 fn name_length(draw: u64) -> u64 {
-    let n = draw % 32;
-    match n {
+    match draw % 32 {
         0 => 0,
         1 => types::MOST_NAME as u64,
         2 => types::MOST_NAME as u64 + 1,
@@ -198,8 +198,7 @@ fn name_length(draw: u64) -> u64 {
 
 // Paths of two bytes end with a slash, as those that mean a directory do.
 fn path_length(draw: u64) -> u64 {
-    let n = draw % 16;
-    match n {
+    match draw % 16 {
         0 => 0,
         1..=7 => 1,
         8..=12 => 2,
@@ -208,22 +207,25 @@ fn path_length(draw: u64) -> u64 {
     }
 }
 
-// A name or a path, by the digits of a number.
-pub(crate) fn spell(out: &mut [u8], text: u64, is_path: bool) {
+// A name, by the digits of a number.
+pub(crate) fn spell_name(out: &mut [u8], text: u64) {
     let mut rest = text;
-    let mut i = 0;
-    while i < out.len() {
-        out[i] = letter(rest % DIGITS, is_path, i);
+    for byte in out.iter_mut() {
+        *byte = letter(rest % DIGITS);
         rest /= DIGITS;
-        i += 1;
     }
 }
 
-// A letter, or now and then what no name has. A path has a slash behind each.
-fn letter(digit: u64, is_path: bool, i: usize) -> u8 {
-    if is_path && i % 2 == 1 {
-        return b'/';
+// A path: a name that has a slash in the place of every second letter.
+pub(crate) fn spell_path(out: &mut [u8], text: u64) {
+    spell_name(out, text);
+    for pair in out.chunks_exact_mut(2) {
+        pair[1] = b'/';
     }
+}
+
+// A letter, or now and then what no name has.
+fn letter(digit: u64) -> u8 {
     match digit {
         0 => b'.',
         1 => b'/',
@@ -231,12 +233,7 @@ fn letter(digit: u64, is_path: bool, i: usize) -> u8 {
     }
 }
 
-// The number, or the greatest that is allowed.
-pub(crate) fn at_most(n: u64, most: usize) -> usize
-    ensures { result ≤ most }
-{
-    if (most as u64) < n {
-        return most;
-    }
-    n as usize
+// Whether what is rare happens.
+pub(crate) fn is_rare(draw: u64) -> bool {
+    draw % SELDOM == 0
 }

@@ -1,10 +1,8 @@
 // Prints what a call answers, and what stands in every node.
-ghost use Rattle.tables.specs.Tables.{Ready};
-
 use crate::draws::joined;
-use types::{Answer, FileType, Limit, NodeRecord, Search};
-use vectors::STDOUT_FILENO;
-use volume::{Layout, Place};
+use std::io;
+use tables::Tables;
+use types::{Error, FileType, NodeRecord, Search};
 
 // An entry that was asked for: the number of the answer, a number that tells index, node and name, and the least index behind it.
 #[derive(Clone, Copy)]
@@ -14,81 +12,60 @@ struct Listed {
     behind: u32,
 }
 
-pub(crate) fn print_answer(answer: Answer) {
-    io::print_decimal(STDOUT_FILENO, types::number(answer) as u64);
-    print_number(types::value(answer));
+pub(crate) fn print_answer(rt: &impl Print, answer: Result<u64, Error>) -> io::Result<()> {
+    print!(rt; "{} {}", types::number(answer), types::value(answer))
 }
 
-pub(crate) fn print_entry(volume: &[u8], directory: u64, from: u32) {
+pub(crate) fn print_entry(
+    rt: &impl Print,
+    volume: &[u8],
+    directory: u64,
+    from: u32,
+) -> io::Result<()> {
     let entry = entry_from(volume, directory, from);
-    io::print_decimal(STDOUT_FILENO, entry.number as u64);
-    print_number(entry.told);
+    print!(rt; "{} {}", entry.number, entry.told)
 }
 
 // A number that tells what came of a search, the index, the node and how many entries were looked at.
-pub(crate) fn print_search(search: Search) {
+pub(crate) fn print_search(rt: &impl Print, search: Result<Search, Error>) -> io::Result<()> {
     let told = vectors::search_numbers(search);
-    io::print_decimal(STDOUT_FILENO, told.number);
     let entry = joined(joined(told.case, told.index), told.node);
-    print_number(joined(entry, told.looked));
-}
-
-pub(crate) fn print_number(n: u64) {
-    io::write_all(STDOUT_FILENO, b" ");
-    io::print_decimal(STDOUT_FILENO, n);
+    print!(rt; "{} {}", told.number, joined(entry, told.looked))
 }
 
 // A number for every node, in ascending order.
-pub(crate) fn show(volume: &[u8], buffer: &mut [u8]) {
-    let Place::At(layout) = soundness::open(volume) else {
-        io::write_all(STDOUT_FILENO, b" unsound");
-        return;
+pub(crate) fn show(rt: &impl Print, volume: &[u8], buffer: &mut [u8]) -> io::Result<()> {
+    let Ok(layout) = soundness::open(volume) else {
+        return print!(rt; " unsound");
     };
-    io::write_all(STDOUT_FILENO, b":");
-    show_nodes(volume, layout, buffer);
-}
-
-fn show_nodes(volume: &[u8], layout: Layout, buffer: &mut [u8])
-    requires { Ready volume.now layout }
-{
-    let used = tables::nodes_used(volume, layout);
-    let mut place = 0;
-    while place < used {
-        let row = tables::node_row(volume, layout, place);
-        print_number(joined(row_told(row), content(volume, row, buffer)));
-        place += 1;
+    print!(rt; ":")?;
+    let tables = Tables {
+        bytes: volume,
+        layout,
+    };
+    for place in 0..tables.nodes_used() {
+        let row = tables.node_row(place);
+        print!(rt; " {}", joined(row_told(row), content(volume, row, buffer)))?;
     }
+    Ok(())
 }
 
 fn row_told(row: NodeRecord) -> u64 {
-    let kind = row.kind;
-    let limit = row.limit;
-    let named = joined(row.node, kind_told(kind));
-    joined(
-        joined(joined(named, row.links), row.size),
-        limit_told(limit),
-    )
+    let named = joined(row.node, u64::from(u8::from(row.kind)));
+    let sized = joined(joined(named, row.links), row.size);
+    joined(sized, limit_told(row.limit))
 }
 
-fn kind_told(kind: FileType) -> u64 {
-    match kind {
-        FileType::Directory => 0,
-        FileType::RegularFile => 1,
-        FileType::SymbolicLink => 2,
-    }
-}
-
-fn limit_told(limit: Limit) -> u64 {
+fn limit_told(limit: Option<u64>) -> u64 {
     match limit {
-        Limit::Unlimited => 0,
-        Limit::AtMost(most) => joined(1, most),
+        None => 0,
+        Some(most) => joined(1, most),
     }
 }
 
 // The entries of a directory, or the first bytes of a file.
 fn content(volume: &[u8], row: NodeRecord, buffer: &mut [u8]) -> u64 {
-    let kind = row.kind;
-    match kind {
+    match row.kind {
         FileType::Directory => entries(volume, row.node, row.size),
         FileType::RegularFile | FileType::SymbolicLink => bytes(volume, row.node, buffer),
     }
@@ -96,7 +73,7 @@ fn content(volume: &[u8], row: NodeRecord, buffer: &mut [u8]) -> u64 {
 
 // As many bytes as the buffer has room for, zeros past the size; and how many there were.
 fn bytes(volume: &[u8], node: u64, buffer: &mut [u8]) -> u64 {
-    words::clear(buffer, 0, buffer.len());
+    buffer.fill(0);
     let answer = lentilraft::read(volume, node, 0, buffer);
     joined(types::value(answer), vectors::checksum(buffer))
 }
@@ -104,12 +81,10 @@ fn bytes(volume: &[u8], node: u64, buffer: &mut [u8]) -> u64 {
 fn entries(volume: &[u8], directory: u64, size: u64) -> u64 {
     let mut told = 0;
     let mut from = 0;
-    let mut left = size;
-    while 0 < left {
+    for _ in 0..size {
         let entry = entry_from(volume, directory, from);
         told = joined(told, entry.told);
         from = entry.behind;
-        left -= 1;
     }
     told
 }
@@ -120,15 +95,8 @@ fn entry_from(volume: &[u8], directory: u64, from: u32) -> Listed {
     let mut node = 0;
     let name = lentilraft::next_entry(volume, directory, from, &mut number, &mut index, &mut node);
     Listed {
-        number: number,
-        told: joined(joined(index as u64, node), vectors::checksum(name)),
-        behind: behind(index),
+        number,
+        told: joined(joined(u64::from(index), node), vectors::checksum(name)),
+        behind: index.saturating_add(1),
     }
-}
-
-fn behind(index: u32) -> u32 {
-    if index == u32::MAX {
-        return index;
-    }
-    index + 1
 }

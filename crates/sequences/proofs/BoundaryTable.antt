@@ -1,6 +1,7 @@
 -- Every row of the scope's boundary table holds, of any sound memory that shows what the rows start from; and a new volume and one create lead
 -- to such a memory.
 -- Assumes nothing.
+use Rattle.std.specs.Prelude.{Err}
 use mathlib.Core.Path.{◌≡◌, refl, ap, ◌∙◌}
 use mathlib.Core.Bool.{true, false}
 use mathlib.Core.List.{List, [], ◌∷◌}
@@ -14,14 +15,13 @@ use Rattle.words.specs.Rules.{pick, either}
 use Rattle.words.specs.Tables.{Each, find}
 use Rattle.types.specs.Answers.{number}
 use Rattle.types.specs.Outcomes.{Outcome}
-use Rattle.types.specs.declared.Answer.TheVariants.{Refused}
 use Rattle.types.specs.declared.Error.TheVariants.{FileTooLarge}
 use Rattle.types.specs.declared.FileType.TheVariants.{RegularFile}
 use Rattle.types.specs.declared.NodeRecord.{NodeRecord}
 use Rattle.allocator.specs.Allocator.{free}
 use Rattle.paths.specs.Path.{parts, not_permitted, cut_path, ends_open, name_allowed}
 use Rattle.paths.proofs.BoundaryRows.{p8, p9, p10, p11, shut9, open10, shut11, a-allowed, b-allowed}
-use Rattle.volume.specs.Kinds.{kind_of}
+use Rattle.types.specs.Kinds.{kind_of}
 use Rattle.volume.specs.Volume.{Volume, shown, at_bytes}
 use Rattle.volume.specs.Framed.{Fits}
 use Rattle.volume.specs.Fresh as Fresh
@@ -113,7 +113,7 @@ shows-size n z r {l} {v} h e = rw (h.volume, show-there v n e) refl
 -- a path that is cut into parts
 cut-does : (start : ℕ) (path : List ℕ) (ps : List (List ℕ)) (l : List ℕ) → Sound l → cut_path path ≡ parts ps → Door.find_node start path l ≡ node_reached (walk_path start path (shown l).names ps)
 unfolding Walks.find_node on_cutting
-cut-does start path ps l h e = find-does start path l h ∙ ap (on_cutting Refused (λ qs. node_reached (walk_path start path (shown l).names qs))) e
+cut-does start path ps l h e = find-does start path l h ∙ ap (on_cutting Err (λ qs. node_reached (walk_path start path (shown l).names qs))) e
 
 -- it ends in a name
 looks-up : (start : ℕ) (path : List ℕ) (ps : List (List ℕ)) (l : List ℕ) → Sound l → cut_path path ≡ parts ps → ends_open path ≡ false → Each (λ p. name_allowed p ≡ true) ps → ComesOut l (find_node start path) (looks_up start ps)
@@ -127,7 +127,7 @@ looks-up-directory start path ps l h e opened left allowed = (ap told (cut-does 
 -- one that is not permitted
 not_found : (start : ℕ) (path l : List ℕ) → Sound l → cut_path path ≡ not_permitted → number (Door.find_node start path l) ≡ 8
 unfolding Walks.find_node on_cutting
-not_found start path l h e = ap number (find-does start path l h ∙ ap (on_cutting Refused (λ qs. node_reached (walk_path start path (shown l).names qs))) e)
+not_found start path l h e = ap number (find-does start path l h ∙ ap (on_cutting Err (λ qs. node_reached (walk_path start path (shown l).names qs))) e)
 
 -- ---- the table
 

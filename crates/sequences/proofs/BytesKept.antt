@@ -8,7 +8,7 @@ use Rattle.words.specs.Tables.{Each}
 use Rattle.words.proofs.Order.{each-insert}
 use Rattle.words.proofs.Only.{each-only}
 use Rattle.types.specs.declared.Expected.{Expected}
-use Rattle.types.specs.declared.Limit.{Limit}
+use Rattle.types.specs.Nodes.{Limit}
 use Rattle.allocator.proofs.Sizes.{size-cases}
 use Rattle.volume.specs.declared.ChunkRow.{ChunkRow}
 use Rattle.volume.specs.Volume.{Names, Store, Volume, with_allocator, on_store}

@@ -1,6 +1,7 @@
 -- Each call, on a sound memory of bytes: what it leaves is one again; accepted, it shows what the call gives; refused, it is the memory
 -- there was.
 -- Assumes nothing.
+use Rattle.std.specs.Prelude.{Ok}
 use mathlib.Core.Path.{◌≡◌, refl, sym, ap, ◌∙◌}
 use mathlib.Core.Bool.{Bool, true, false}
 use mathlib.Core.List.{List}
@@ -11,9 +12,8 @@ use lib.ListN.{length}
 use Rattle.words.specs.Bytes.{Bytes}
 use Rattle.types.specs.Answers.{number}
 use Rattle.types.specs.Outcomes.{Outcome}
-use Rattle.types.specs.declared.Answer.TheVariants.{Done}
 use Rattle.types.specs.declared.Expected.{Expected}
-use Rattle.types.specs.declared.Limit.{Limit}
+use Rattle.types.specs.Nodes.{Limit}
 use Rattle.volume.specs.Volume.{Volume, shown, at_bytes}
 use Rattle.volume.specs.Framed.{Fits}
 use Rattle.volume.specs.Sound.{Good, Sound}
@@ -69,7 +69,7 @@ pub record Carried (c : Call) (l : List ℕ) : Type 0 where
 record Works (call : Volume → Step) (f : Fs → Fs) : Type 0 where
   keeps : (v : Volume) → Fits v → Good v → Fits (call v).after × Good (call v).after
   raw : (v : Volume) → Good v → RawBytes v → RawBytes (call v).after
-  shows : (v : Volume) → Fits v → Good v → (k : ℕ) → (call v).answer ≡ Done k → show (call v).after ≡ f (show v)
+  shows : (v : Volume) → Fits v → Good v → (k : ℕ) → (call v).answer ≡ Ok k → show (call v).after ≡ f (show v)
   later : (v : Volume) → Later v.store (call v).after.store
 
 -- the same at the door
@@ -150,7 +150,7 @@ module _ (n e c s : ℕ) (l : List ℕ) where
   abbrev new : Outcome
   new = Fresh.new_volume n e c s l
 
-  made : accepted (new_volume n e c s) l ≡ true → (k : ℕ) × (new.answer ≡ Done k) × Made n e c s l new.bytes
+  made : accepted (new_volume n e c s) l ≡ true → (k : ℕ) × (new.answer ≡ Ok k) × Made n e c s l new.bytes
   made q = let d = is-done new.answer q in (d.0, d.1, new-made n e c s l d.0 d.1)
 
   pub new-bytes : accepted (new_volume n e c s) l ≡ true → Bytes new.bytes

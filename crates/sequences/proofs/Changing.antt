@@ -1,5 +1,6 @@
 -- An accepted call changes only the nodes that the scope names for it.
 -- Assumes nothing.
+use Rattle.std.specs.Prelude.{Some, None}
 use mathlib.Core.Path.{◌≡◌, refl, ◌∙◌}
 use mathlib.Core.Bool.{Bool, true, false}
 use mathlib.Core.Logic.{inl, inr}
@@ -8,9 +9,7 @@ use Prim.Native.Nat.{ℕ}
 use lib.Dec.{eqb}
 use lib.ListN.{length}
 use Rattle.words.specs.Rules.{pick}
-use Rattle.volume.specs.declared.kinds.Kind.{Kind}
-use Rattle.volume.specs.declared.kinds.Kind.TheVariants.{Known, Unknown}
-use Rattle.volume.specs.Kinds.{kind_of}
+use Rattle.types.specs.Kinds.{Kind, kind_of}
 use Rattle.names.specs.Entering.{on_kind}
 use Rattle.sequences.specs.Fs.{Fs}
 use Rattle.sequences.specs.Calls.{Call, new_volume, check, report, set_chunk_size, read, write, resize, set_limit, find_node, next_entry, search, create, link, unlink, remove}
@@ -38,8 +37,8 @@ act-leaves (search d name from most) fs m h = refl
 act-leaves (create p name byte) fs m h = go (kind_of byte)
   where
     go : (k : Kind) → (on_kind fs (λ kind. created_as p name.list kind fs) k).at m ≡ fs.at m
-    go Unknown = refl
-    go (Known kind) = change-other p _ _ m (λ e. h (inl e)) ∙ put_other fs.next _ _ fs m (λ e. h (inr e))
+    go None = refl
+    go (Some kind) = change-other p _ _ m (λ e. h (inl e)) ∙ put_other fs.next _ _ fs m (λ e. h (inr e))
 act-leaves (link p name t) fs m h = change-other p _ _ m (λ e. h (inl e)) ∙ change-other t _ fs m (λ e. h (inr e))
 act-leaves (unlink start path want opens) fs m h = go (path_name fs start path) h
   where

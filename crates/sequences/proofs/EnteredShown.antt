@@ -1,15 +1,15 @@
 -- What create and link change of what a volume shows: the parent has one name more, and the node that it names is new, or has one link more.
 -- Assumes nothing.
+use Rattle.std.specs.Prelude.{Ok}
 use mathlib.Core.Path.{◌≡◌, refl, sym, ap, ◌∙◌}
 use mathlib.Core.List.{List}
 use mathlib.Core.Option.{Option, some, none-ne-some}
 use Prim.Native.Nat.{ℕ, ◌+◌}
 use native.Mathlib.Omega.{arith}
 use Rattle.words.specs.Tables.{Asc}
-use Rattle.types.specs.declared.Answer.TheVariants.{Done}
 use Rattle.types.specs.declared.FileType.{FileType}
 use Rattle.types.specs.declared.NodeRecord.{NodeRecord}
-use Rattle.volume.specs.Kinds.{kind_of}
+use Rattle.types.specs.Kinds.{kind_of}
 use Rattle.volume.specs.Volume.{Names, Volume}
 use Rattle.volume.specs.Sound.{node, entry_before, Good}
 use Rattle.volume.specs.Steps.{NamesStep, name_step}
@@ -107,12 +107,12 @@ module _ (p : ℕ) (name : List ℕ) (v : Volume) (g : Good v) (kind : FileType)
       entry-shows v made created-more (put_at next (some (new_seen kind)) (next + 1) (show v)) (unfold created put_at in refl) (new-shows ∙ sym (put-here next (some (new_seen kind)) (next + 1) (show v)))
       (put_other next (some (new_seen kind)) (next + 1) (show v))
 
-pub create-shows : (p : ℕ) (name : List ℕ) (byte : ℕ) (v : Volume) → Good v → (k : ℕ) → (Entering.create p name byte v.names).answer ≡ Done k
+pub create-shows : (p : ℕ) (name : List ℕ) (byte : ℕ) (v : Volume) → Good v → (k : ℕ) → (Entering.create p name byte v.names).answer ≡ Ok k
     → show (name_step (Entering.create p name byte) v).after ≡ on_kind (show v) (λ kind. created_as p name kind (show v)) (kind_of byte)
 unfolding on_kind
 create-shows p name byte v g k = go (Entering.create p name byte v.names) (creates-view p name byte v.names)
   where
-    go : (s : NamesStep) → Creates p name byte v.names s → s.answer ≡ Done k → show (with_names s.after v) ≡ on_kind (show v) (λ kind. created_as p name kind (show v)) (kind_of byte)
+    go : (s : NamesStep) → Creates p name byte v.names s → s.answer ≡ Ok k → show (with_names s.after v) ≡ on_kind (show v) (λ kind. created_as p name kind (show v)) (kind_of byte)
     go s (refuses-create e) q = let x : ◌≡◌ {A = ℕ} 0 1 = cc in absurd (omega arith)
     go s (creates r kind t w e more last) q = rw e (created-shows p name v g kind r t)
 
@@ -145,9 +145,9 @@ module _ (p : ℕ) (name : List ℕ) (t : ℕ) (v : Volume) (g : Good v) (r d : 
   linked-shows : show (with_names linked_names v) ≡ linked_as p name t (show v)
   linked-shows = entry-shows v linked_names linked-more (change_at t link_seen (show v)) (unfold Entering.linked_to with_entry show change_at in refl) target-shows (change-other t link_seen (show v))
 
-pub link-shows : (p : ℕ) (name : List ℕ) (t : ℕ) (v : Volume) → Good v → (k : ℕ) → (Entering.link p name t v.names).answer ≡ Done k → show (name_step (Entering.link p name t) v).after ≡ linked_as p name t (show v)
+pub link-shows : (p : ℕ) (name : List ℕ) (t : ℕ) (v : Volume) → Good v → (k : ℕ) → (Entering.link p name t v.names).answer ≡ Ok k → show (name_step (Entering.link p name t) v).after ≡ linked_as p name t (show v)
 link-shows p name t v g k = go (Entering.link p name t v.names) (links-view p name t v.names)
   where
-    go : (s : NamesStep) → Links p name t v.names s → s.answer ≡ Done k → show (with_names s.after v) ≡ linked_as p name t (show v)
+    go : (s : NamesStep) → Links p name t v.names s → s.answer ≡ Ok k → show (with_names s.after v) ≡ linked_as p name t (show v)
     go s (refuses-link e) q = let x : ◌≡◌ {A = ℕ} 0 1 = cc in absurd (omega arith)
     go s (links r d w e i) q = linked-shows p name t v g r d w i

@@ -1,6 +1,7 @@
 -- What the calls on files leave to be seen: a write, a cut and a limit change the one node; a new chunk size changes nothing; a new volume
 -- shows the root alone.
 -- Assumes nothing.
+use Rattle.std.specs.Prelude.{Ok}
 use mathlib.Core.Path.{◌≡◌, refl, sym, ap, ◌∙◌}
 use mathlib.Core.Bool.{Bool}
 use mathlib.Core.List.{List, []}
@@ -13,9 +14,8 @@ use borrow.Author.Tests.{ne_eqb}
 use Rattle.words.specs.Rules.{pick, Says, holds, fails}
 use Rattle.words.specs.Tables.{find, only}
 use Rattle.words.proofs.Rules.{says-eqb, says-leb, says-ltb, says_both}
-use Rattle.types.specs.declared.Answer.TheVariants.{Done}
 use Rattle.types.specs.declared.FileType.TheVariants.{Directory}
-use Rattle.types.specs.declared.Limit.{Limit}
+use Rattle.types.specs.Nodes.{Limit}
 use Rattle.types.specs.declared.NodeRecord.{NodeRecord}
 use Rattle.allocator.specs.Allocator.{with_size}
 use Rattle.allocator.proofs.Sizes.{size-cases}
@@ -52,7 +52,7 @@ wrote-shows n offset bs v w x =
     byte j (holds h) = unfold pick in x.inside j h.0 h.1
     byte j (fails h) = unfold pick in x.outside n j (λ e low high. h (low, high))
 
-pub write-shows : (n offset : ℕ) (bs : List ℕ) (v : Volume) → Fits v → Good v → (k : ℕ) → (Write.write n offset bs v).answer ≡ Done k
+pub write-shows : (n offset : ℕ) (bs : List ℕ) (v : Volume) → Fits v → Good v → (k : ℕ) → (Write.write n offset bs v).answer ≡ Ok k
     → show (Write.write n offset bs v).after ≡ pick (eqb (length bs) 0) (show v) (change_at n (with_written offset bs) (show v))
 write-shows n offset bs v f g k q = go (says-eqb (length bs) 0)
   where
@@ -73,21 +73,21 @@ resized-shows n z v w x =
     byte j (holds h) = unfold pick in x.below j h
     byte j (fails h) = unfold pick in x.above j (omega arith)
 
-pub resize-shows : (n z : ℕ) (v : Volume) → Fits v → Good v → (k : ℕ) → (Resize.resize n z v).answer ≡ Done k → show (Resize.resize n z v).after ≡ change_at n (with_cut z) (show v)
+pub resize-shows : (n z : ℕ) (v : Volume) → Fits v → Good v → (k : ℕ) → (Resize.resize n z v).answer ≡ Ok k → show (Resize.resize n z v).after ≡ change_at n (with_cut z) (show v)
 resize-shows n z v f g k q = resized-shows n z v (Resize.resize n z v).after (ResizeKept.resize-shows n z v f g k q).1
 
 -- ---- a limit
 
 module _ (n : ℕ) (m : Limit) (v : Volume) (f : Fits v) (g : Good v) (k : ℕ) where
   -- the row of the file, with its limit
-  pub limit-row : (Limits.set_limit n m v).answer ≡ Done k → (r : NodeRecord) → node n v.names ≡ some r → node n (Limits.set_limit n m v).after.names ≡ some (limited m r)
+  pub limit-row : (Limits.set_limit n m v).answer ≡ Ok k → (r : NodeRecord) → node n v.names ≡ some r → node n (Limits.set_limit n m v).after.names ≡ some (limited m r)
   limit-row =
-      limit-cases (λ s. s.answer ≡ Done k → (r : NodeRecord) → node n v.names ≡ some r → node n s.after.names ≡ some (limited m r)) n m v (λ e q. let x : ◌≡◌ {A = ℕ} 0 1 = cc in absurd (omega arith))
+      limit-cases (λ s. s.answer ≡ Ok k → (r : NodeRecord) → node n v.names ≡ some r → node n s.after.names ≡ some (limited m r)) n m v (λ e q. let x : ◌≡◌ {A = ℕ} 0 1 = cc in absurd (omega arith))
       (λ d there file most size q r. node-here n (limited m) (λ s. refl) r v.names)
 
-  pub limit-shows : (Limits.set_limit n m v).answer ≡ Done k → show (Limits.set_limit n m v).after ≡ change_at n (with_limit m) (show v)
+  pub limit-shows : (Limits.set_limit n m v).answer ≡ Ok k → show (Limits.set_limit n m v).after ≡ change_at n (with_limit m) (show v)
   limit-shows =
-      limit-cases (λ s. s.answer ≡ Done k → show s.after ≡ change_at n (with_limit m) (show v)) n m v (λ e q. let x : ◌≡◌ {A = ℕ} 0 1 = cc in absurd (omega arith))
+      limit-cases (λ s. s.answer ≡ Ok k → show s.after ≡ change_at n (with_limit m) (show v)) n m v (λ e q. let x : ◌≡◌ {A = ℕ} 0 1 = cc in absurd (omega arith))
       (λ r there file most size q. shows-changed n (with_limit m) v _ r (limited m r) refl there (node-here n (limited m) (λ s. refl) r v.names there) refl
       (λ i h. shows_same v _ i (node-other n (limited m) (λ s. refl) r v.names there i h) (λ j. refl) refl))
 

@@ -1,5 +1,6 @@
 -- A wrong program: it does only the first call of a sequence. The sequence theorem does not hold of it.
 -- Assumes nothing.
+use Rattle.std.specs.Prelude.{Ok}
 use mathlib.Core.Path.{◌≡◌, refl, sym, ap, ◌∙◌}
 use mathlib.Core.Bool.{true}
 use mathlib.Core.List.{List, [], ◌∷◌}
@@ -9,9 +10,8 @@ use lib.ListN.{length}
 use borrow.Author.Tests.{lt-leb}
 use Rattle.words.specs.Rules.{pick, either}
 use Rattle.words.specs.Tables.{find}
-use Rattle.types.specs.declared.Answer.TheVariants.{Done}
 use Rattle.paths.specs.Path.{name_allowed}
-use Rattle.volume.specs.Kinds.{kind_of}
+use Rattle.types.specs.Kinds.{kind_of}
 use Rattle.volume.specs.Volume.{Volume, shown, at_bytes}
 use Rattle.volume.specs.Fresh.{fresh, fresh_laid}
 use Rattle.volume.specs.Fresh as Fresh
@@ -57,7 +57,7 @@ module _ (n e c s : ℕ) (l : List ℕ) (name : Lent) (begun : accepted (new_vol
 
   module _ (two : 2 ≤ n) (allowed : name_allowed name.list ≡ true) where
     -- the root has no entry yet, and there is room for a node and an entry
-    creates : (Entering.create 0 name.list 1 empty.names).answer ≡ Done 1
+    creates : (Entering.create 0 name.list 1 empty.names).answer ≡ Ok 1
     unfolding Entering.create on_parent on_parent_row on_kind where_new no_row_room on_entry entry_named greatest kind_of node find pick either fresh
     creates = rw (allowed, lt-leb n 1 (omega arith), lt-leb e 0 (omega (arith, made.placed.entries))) refl
 

@@ -1,5 +1,6 @@
 -- Every row of the table of paths that mean a directory holds, of any memory in which the new volume is accepted.
 -- Assumes nothing.
+use Rattle.std.specs.Prelude.{Ok, Err}
 use mathlib.Core.Path.{◌≡◌, refl, ap, ◌∙◌}
 use mathlib.Core.Bool.{true}
 use mathlib.Core.List.{List, [], ◌∷◌}
@@ -7,8 +8,7 @@ use Prim.Native.Nat.{ℕ}
 use Rattle.words.specs.Rules.{pick, both, either, same}
 use Rattle.words.specs.Tables.{Each, lead_of, lead, insert_at, find}
 use Rattle.types.specs.Answers.{number}
-use Rattle.types.specs.declared.Answer.{Answer}
-use Rattle.types.specs.declared.Answer.TheVariants.{Done, Refused}
+use Rattle.types.specs.Answers.{Answer}
 use Rattle.types.specs.declared.Error.TheVariants.{NoSuchEntry, NotDirectory}
 use Rattle.types.specs.declared.Expected.TheVariants.{Any}
 use Rattle.types.specs.declared.FileType.TheVariants.{Directory, RegularFile, SymbolicLink}
@@ -16,7 +16,7 @@ use Rattle.paths.specs.Boundary.{byte_a, byte_b}
 use Rattle.paths.specs.Path.{slash, dot, cons, split, dropped, upward, walk, cut_path, ends_open, no_slash, name_allowed}
 use Rattle.volume.specs.Rows.{Entry}
 use Rattle.volume.specs.Search.{pair_before}
-use Rattle.volume.specs.Kinds.{kind_of}
+use Rattle.types.specs.Kinds.{kind_of}
 use Rattle.volume.specs.Volume.{Names, Volume, on_names}
 use Rattle.volume.specs.Fresh.{root, fresh}
 use Rattle.volume.specs.Sound.{node}
@@ -108,15 +108,15 @@ module _ (l : List ℕ) (q : accepted (new_volume 4 3 1 16384) l ≡ true) (a b 
   pub folders : Each (Holds l) (folder_table (kinds_made a b c))
   unfolding Each Walks.find_node Unlinking.unlink unlink_reached unlink_node on_cutting cut_path walk split cons dropped upward ends_open means_directory walk_path walk_from walk_parts on_start as_directory on_passing node_reached on_entry entry_named node find pick both either same
   folders =
-      let refused4 = unlinks (byte_a ∷ slash ∷ []) 1 (Refused NotDirectory) refl in
-      (ap told (finds 0 (byte_a ∷ []) (Done 1) refl), tt)
-      also ((ap number (finds 0 (byte_a ∷ slash ∷ []) (Refused NotDirectory) refl), refl), tt)
-      also ((ap number (finds 0 (byte_a ∷ slash ∷ dot ∷ []) (Refused NotDirectory) refl), refl), tt)
-      also ((ap number (finds 0 (byte_a ∷ slash ∷ byte_b ∷ slash ∷ dot ∷ dot ∷ []) (Refused NotDirectory) refl), refl), tt)
-      also ((ap number (finds 0 (byte_a ∷ slash ∷ byte_b ∷ slash ∷ []) (Refused NoSuchEntry) refl), refl), tt)
-      also (ap told (finds 0 (byte_b ∷ slash ∷ []) (Done 2) refl), tt)
-      also (ap told (finds 0 (byte_c ∷ slash ∷ []) (Done 3) refl), tt)
-      also (ap told (finds 1 (dot ∷ slash ∷ []) (Done 1) refl), tt)
+      let refused4 = unlinks (byte_a ∷ slash ∷ []) 1 (Err NotDirectory) refl in
+      (ap told (finds 0 (byte_a ∷ []) (Ok 1) refl), tt)
+      also ((ap number (finds 0 (byte_a ∷ slash ∷ []) (Err NotDirectory) refl), refl), tt)
+      also ((ap number (finds 0 (byte_a ∷ slash ∷ dot ∷ []) (Err NotDirectory) refl), refl), tt)
+      also ((ap number (finds 0 (byte_a ∷ slash ∷ byte_b ∷ slash ∷ dot ∷ dot ∷ []) (Err NotDirectory) refl), refl), tt)
+      also ((ap number (finds 0 (byte_a ∷ slash ∷ byte_b ∷ slash ∷ []) (Err NoSuchEntry) refl), refl), tt)
+      also (ap told (finds 0 (byte_b ∷ slash ∷ []) (Ok 2) refl), tt)
+      also (ap told (finds 0 (byte_c ∷ slash ∷ []) (Ok 3) refl), tt)
+      also (ap told (finds 1 (dot ∷ slash ∷ []) (Ok 1) refl), tt)
       also ((ap number refused4, (unlink-refusal 0 (byte_a ∷ slash ∷ []) Any 1 after memory.bytes NotDirectory refused4).1), tt)
-      also (ap told (unlinks (byte_c ∷ slash ∷ []) 0 (Done 3) refl), tt)
+      also (ap told (unlinks (byte_c ∷ slash ∷ []) 0 (Ok 3) refl), tt)
       also tt

@@ -8,7 +8,7 @@ use Prim.Native.Nat.{ℕ, zero, suc, ◌≤◌, ◌<◌}
 use native.Mathlib.Omega.{arith}
 use lib.Dec.{eqb}
 use Rattle.words.specs.Rules.{pick}
-use Rattle.types.specs.declared.Limit.{Limit}
+use Rattle.types.specs.Nodes.{Limit}
 use Rattle.allocator.specs.Allocator.{Allocator, allocate, grown, reused}
 use Rattle.allocator.proofs.Sizes.{size-cases}
 use Rattle.allocator.proofs.Allocated.{allocate-rest}

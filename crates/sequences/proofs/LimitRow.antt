@@ -1,12 +1,13 @@
 -- An accepted set limit at the door: the row of its node afterwards has the limit, and is else as it was.
 -- Assumes nothing.
+use Rattle.std.specs.Prelude.{}
 use mathlib.Core.Path.{◌≡◌, sym, ap, ◌∙◌}
 use mathlib.Core.Bool.{true}
 use mathlib.Core.List.{List}
 use mathlib.Core.Option.{some}
 use Prim.Native.Nat.{ℕ}
 use Rattle.words.specs.Bytes.{Bytes}
-use Rattle.types.specs.declared.Limit.{Limit}
+use Rattle.types.specs.Nodes.{Limit}
 use Rattle.types.specs.declared.NodeRecord.{NodeRecord}
 use Rattle.volume.specs.Volume.{Volume, shown}
 use Rattle.volume.specs.Sound.{node, Sound}

@@ -1,5 +1,7 @@
 -- No call answers 1 on a sound memory, so that none does in a sequence that an accepted new volume begins.
 -- Assumes nothing.
+use Rattle.std.specs.Prelude.{Result, Some, None}
+use Rattle.types.specs.Kinds.{Kind}
 use mathlib.Core.Path.{◌≡◌, refl, sym, ◌∙◌}
 use mathlib.Core.Bool.{Bool, true, false, true≢false}
 use mathlib.Core.List.{List, [], ◌∷◌}
@@ -12,19 +14,17 @@ use Rattle.words.specs.Rules.{pick}
 use Rattle.words.specs.Tables.{Each}
 use Rattle.types.specs.Answers.{number, error_number, search_number}
 use Rattle.types.specs.Outcomes.{Outcome}
-use Rattle.types.specs.declared.Answer.{Answer}
+use Rattle.types.specs.Answers.{Answer}
 use Rattle.types.specs.declared.Error.{Error}
 use Rattle.types.specs.declared.Error.TheVariants.{NoSuchEntry, IsDirectory, NotDirectory, BadName, PathNotPermitted, InvalidArgument}
 use Rattle.types.specs.declared.Expected.{Expected}
 use Rattle.types.specs.declared.FileType.{FileType}
-use Rattle.types.specs.declared.Limit.{Limit}
+use Rattle.types.specs.Nodes.{Limit}
 use Rattle.types.specs.declared.NodeRecord.{NodeRecord}
 use Rattle.types.specs.declared.Search.{Search}
 use Rattle.allocator.specs.Allocator.{Allocator, AllocatorStep}
 use Rattle.allocator.specs.Allocator as allocating
 use Rattle.paths.specs.Path.{Cutting, parts, not_permitted, too_long}
-use Rattle.volume.specs.declared.kinds.Kind.{Kind}
-use Rattle.volume.specs.declared.kinds.Kind.TheVariants.{Known, Unknown}
 use Rattle.volume.specs.Rows.{Entry}
 use Rattle.volume.specs.Volume.{Names, Volume, shown}
 use Rattle.volume.specs.Sound.{node, Sound}
@@ -76,7 +76,7 @@ FineAllocator s = Fine s.answer
 abbrev FineListed : Listed → Type 0
 FineListed x = Other (listed_number x)
 
-abbrev FineSearch : Search → Type 0
+abbrev FineSearch : Result Search Error → Type 0
 FineSearch s = Other (search_number s)
 
 abbrev FineWalk : Walk → Type 0
@@ -102,8 +102,8 @@ module _ {A : Type 0} (P : A → Type 0) where
 
   of-kind : (k : Kind) {unknown : A} {call : FileType → A} → P unknown → ((t : FileType) → P (call t)) → P (on_kind unknown call k)
   unfolding on_kind
-  of-kind (Known t) u c = c t
-  of-kind Unknown u c = u
+  of-kind (Some t) u c = c t
+  of-kind None u c = u
 
   -- the door lets a sound memory in
   of-sound : (l : List ℕ) → Sound l → (refuse : Error → A) (call : Volume → A) → P (call (shown l)) → P (Door.if_sound l refuse call)
@@ -198,14 +198,9 @@ next-fine : (d from : ℕ) (a : Names) → FineListed (Listing.next_entry d from
 unfolding Listing.next_entry
 next-fine d from a = of-directory FineListed (λ e q. q) _ (λ r. of_entry FineListed _ refl (λ e. refl))
 
-unfound-fine : (looked : ℕ) (es : List Entry) → FineSearch (Searching.unfound looked es)
-unfolding Searching.unfound
-unfound-fine looked [] = refl
-unfound-fine looked (e ∷ es) = refl
-
 search-fine : (d : ℕ) (name : List ℕ) (from most : ℕ) (a : Names) → FineSearch (Searching.search d name from most a)
-unfolding Searching.search Searching.looked_through
-search-fine d name from most a = of-directory FineSearch (λ e q. q) _ (λ r. of-pick FineSearch _ (of_entry FineSearch _ (unfound-fine _ _) (λ e. refl)) refl)
+unfolding Searching.search
+search-fine d name from most a = of-directory FineSearch (λ e q. q) _ (λ r. of-pick FineSearch _ refl refl)
 
 enter-fine : (p : ℕ) (name : List ℕ) (full : Bool) (a : Names) (call : NamesStep) → FineNames call → FineNames (where_new p name full a call)
 unfolding where_new

@@ -1,5 +1,6 @@
 -- One call on a sound memory: what it leaves is sound and shows what the call gives; refused, it is the memory there was.
 -- Assumes nothing.
+use Rattle.std.specs.Prelude.{Ok, Err}
 use mathlib.Core.Path.{◌≡◌, refl, sym, ap, ◌∙◌}
 use mathlib.Core.Bool.{Bool, true, false}
 use mathlib.Core.List.{List}
@@ -10,8 +11,7 @@ use borrow.Author.Tests.{ne_eqb}
 use Rattle.words.specs.Bytes.{Bytes}
 use Rattle.words.specs.Rules.{pick, bit}
 use Rattle.types.specs.Answers.{error_number, number}
-use Rattle.types.specs.declared.Answer.{Answer}
-use Rattle.types.specs.declared.Answer.TheVariants.{Done, Refused}
+use Rattle.types.specs.Answers.{Answer}
 use Rattle.types.specs.declared.Error.{Error}
 use Rattle.types.specs.declared.Error.TheVariants.{UnsoundMemory, NoSuchEntry, IsDirectory, NotDirectory, FileTooLarge, NoChunkRoom, NoRowRoom, PathNotPermitted, BadName, NameExists, DirectoryNotEmpty, Busy, InvalidArgument, NoIndexLeft, OutputTooShort}
 use Rattle.volume.specs.Volume.{Volume, shown}
@@ -49,13 +49,13 @@ not-both : (t : Bool) → t ≡ true → t ≡ false → ⊥
 unfolding bit
 not-both t p q = let z : ◌≡◌ {A = ℕ} 0 1 = ap bit (sym q ∙ p) in omega arith
 
-pub is-done : (a : Answer) → eqb (number a) 0 ≡ true → (k : ℕ) × (a ≡ Done k)
-is-done (Done k) h = (k, refl)
-is-done (Refused e) h = absurd (not-both (eqb (error_number e) 0) h (ne_eqb (error_number e) 0 (λ z. omega (arith, error-above e))))
+pub is-done : (a : Answer) → eqb (number a) 0 ≡ true → (k : ℕ) × (a ≡ Ok k)
+is-done (Ok k) h = (k, refl)
+is-done (Err e) h = absurd (not-both (eqb (error_number e) 0) h (ne_eqb (error_number e) 0 (λ z. omega (arith, error-above e))))
 
-pub is-refused : (a : Answer) → eqb (number a) 0 ≡ false → (e : Error) × (a ≡ Refused e)
-is-refused (Done k) h = absurd (not-both true refl h)
-is-refused (Refused e) h = (e, refl)
+pub is-refused : (a : Answer) → eqb (number a) 0 ≡ false → (e : Error) × (a ≡ Err e)
+is-refused (Ok k) h = absurd (not-both true refl h)
+is-refused (Err e) h = (e, refl)
 
 -- ---- a call behind the door
 
@@ -72,7 +72,7 @@ module _ (call : Volume → Step) (keeps : (v : Volume) → Fits v → Good v �
   door-after = rw (true-sound l h) (shown-laid (call (shown l)).after kept.0)
 
   -- accepted, it shows what the call makes of what was shown
-  pub door-shows : (f : Fs → Fs) → ((v : Volume) → Fits v → Good v → (k : ℕ) → (call v).answer ≡ Done k → show (call v).after ≡ f (show v))
+  pub door-shows : (f : Fs → Fs) → ((v : Volume) → Fits v → Good v → (k : ℕ) → (call v).answer ≡ Ok k → show (call v).after ≡ f (show v))
       → eqb (number (door l call).answer) 0 ≡ true → show (shown (door l call).bytes) ≡ f (show (shown l))
   door-shows f shows q =
       let d = is-done (door l call).answer q in

@@ -1,5 +1,6 @@
 -- A remove, as shown: its node is there no more and its bytes read zero; every other node shows what it showed.
 -- Assumes nothing.
+use Rattle.std.specs.Prelude.{Ok}
 use mathlib.Core.Path.{◌≡◌, refl, sym, ◌∙◌}
 use mathlib.Core.Option.{none}
 use Prim.Native.Nat.{ℕ}
@@ -8,7 +9,6 @@ use lib.Dec.{eqb}
 use borrow.Author.Tests.{eq-eqb, ne_eqb}
 use Rattle.words.specs.Rules.{pick}
 use Rattle.words.proofs.Rules.{pick_true, pick-false}
-use Rattle.types.specs.declared.Answer.TheVariants.{Done}
 use Rattle.volume.specs.Volume.{Volume}
 use Rattle.volume.specs.Steps.{Step}
 use Rattle.store.specs.Content.{byte_at}
@@ -21,10 +21,10 @@ use Rattle.sequences.specs.Act.{put_at}
 use Rattle.sequences.proofs.Shown.{fs-same, by-node, put-here, put_other, show-missing, shows_same}
 
 -- an accepted remove takes the row and the chunks
-remove-done : (n : ℕ) (v : Volume) (k : ℕ) → (Removing.remove n v).answer ≡ Done k → (Removing.remove n v).after ≡ removed n v
+remove-done : (n : ℕ) (v : Volume) (k : ℕ) → (Removing.remove n v).answer ≡ Ok k → (Removing.remove n v).after ≡ removed n v
 remove-done n v k = go (Removing.remove n v) (remove-cases n v)
   where
-    go : (s : Step) → Removes n v s → s.answer ≡ Done k → s.after ≡ removed n v
+    go : (s : Step) → Removes n v s → s.answer ≡ Ok k → s.after ≡ removed n v
     go s (refuses e) q = let x : ◌≡◌ {A = ℕ} 0 1 = cc in absurd (omega arith)
     go s (removes r there bare) q = refl
 
@@ -41,7 +41,7 @@ module _ (n : ℕ) (v : Volume) where
       by-node (λ m. byte_at (removed n v).store m j ≡ pick (eqb m n) 0 (byte_at v.store m j)) n
       (pick_true _ _ _ _ (eq-eqb n n refl) (byte_high n 0 v.store j (omega arith))) (λ m h. pick-false _ _ _ _ (ne_eqb m n h) (byte-other n 0 v.store m j h)) m
 
-module _ (n : ℕ) (v : Volume) (k : ℕ) (done : (Removing.remove n v).answer ≡ Done k) where
+module _ (n : ℕ) (v : Volume) (k : ℕ) (done : (Removing.remove n v).answer ≡ Ok k) where
   -- the node is gone
   pub remove-shows : show (Removing.remove n v).after ≡ put_at n none (show v).next (show v)
   remove-shows = rw (remove-done n v k done) (removed-shows n v)

@@ -1,5 +1,6 @@
 -- What an accepted call leaves of a byte is what it says of it, else what there was; and so for calls one behind another.
 -- Assumes nothing.
+use Rattle.std.specs.Prelude.{Some, None}
 use mathlib.Core.Path.{◌≡◌, refl, sym, ap, ◌∙◌}
 use mathlib.Core.Bool.{Bool, true, false}
 use mathlib.Core.List.{List}
@@ -12,9 +13,7 @@ use borrow.Author.Tests.{eq-eqb, ne_eqb, le-ltb, le-leb, lt-leb}
 use Rattle.words.specs.Rules.{pick, both, Says, holds, fails}
 use Rattle.words.proofs.Rules.{says-eqb, says-leb, says-ltb}
 use Rattle.types.specs.declared.FileType.TheVariants.{Directory}
-use Rattle.volume.specs.declared.kinds.Kind.{Kind}
-use Rattle.volume.specs.declared.kinds.Kind.TheVariants.{Known, Unknown}
-use Rattle.volume.specs.Kinds.{kind_of}
+use Rattle.types.specs.Kinds.{Kind, kind_of}
 use Rattle.names.specs.Entering.{on_kind}
 use Rattle.sequences.specs.Fs.{NodeSeen, Fs}
 use Rattle.sequences.specs.Calls.{Call, new_volume, check, report, set_chunk_size, read, write, resize, set_limit, find_node, next_entry, search, create, link, unlink, remove}
@@ -135,8 +134,8 @@ create-says p name byte fs absent m j = go (kind_of byte)
         (λ k other. ap (λ q. byte_of q j) (put_other fs.next o (fs.next + 1) fs k other)) m
 
     go : (k : Kind) → byte_seen (on_kind fs (λ kind. created_as p name kind fs) k) m j ≡ byte_seen fs m j
-    go Unknown = refl
-    go (Known kind) = kept-bytes p (with_name name fs.next) _ (λ x i. refl) m j ∙ made (some (new_seen kind)) refl
+    go None = refl
+    go (Some kind) = kept-bytes p (with_name name fs.next) _ (λ x i. refl) m j ∙ made (some (new_seen kind)) refl
 
 pub new-says : (n j : ℕ) → byte_seen empty_fs n j ≡ 0
 unfolding empty_fs pick

@@ -1,5 +1,6 @@
 -- An unlink, as shown: the names that lead to its entry, and the file system with that name and that link less.
 -- Assumes nothing.
+use Rattle.std.specs.Prelude.{Ok}
 use mathlib.Core.Path.{◌≡◌, refl, sym, ap, ◌∙◌}
 use mathlib.Core.Bool.{Bool, true, false, not, true≢false}
 use mathlib.Core.List.{List, [], ◌∷◌, map}
@@ -15,7 +16,6 @@ use Rattle.words.specs.Tables.{find, only}
 use Rattle.words.proofs.Rules.{says-true, false-says}
 use Rattle.words.proofs.FoundRows.{found-passes, found-each}
 use Rattle.types.specs.Sizes.{most_name}
-use Rattle.types.specs.declared.Answer.TheVariants.{Done}
 use Rattle.types.specs.declared.Error.TheVariants.{NoSuchEntry, BadName}
 use Rattle.types.specs.declared.Expected.{Expected}
 use Rattle.types.specs.declared.NodeRecord.{NodeRecord}
@@ -192,7 +192,7 @@ walk-parts start a ps m e = go (node start a)
     go (some r) h = h
 
 -- the name that the path leads by goes, and so does the link
-pub unlink-shows : (start : ℕ) (path : List ℕ) (want : Expected) (opens : ℕ) (v : Volume) → Good v → (k : ℕ) → (Unlinking.unlink start path want opens v.names).answer ≡ Done k
+pub unlink-shows : (start : ℕ) (path : List ℕ) (want : Expected) (opens : ℕ) (v : Volume) → Good v → (k : ℕ) → (Unlinking.unlink start path want opens v.names).answer ≡ Ok k
     → show (name_step (Unlinking.unlink start path want opens) v).after ≡ on_name (show v) (unlinked_from (show v)) (path_name (show v) start path)
 unfolding on_cutting
 unlink-shows start path want opens v g k h =

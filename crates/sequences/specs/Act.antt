@@ -1,15 +1,14 @@
 -- Believed: what an accepted call gives, and what a list of them gives from nothing: the file system worked out afresh.
 -- Assumes nothing.
-use Rattle.std.specs.Prelude.{ℕ, ◌+◌, ◌-◌, max, Bool, not, List, [], ◌∷◌, ◌++◌, eqb, leb, ltb, length, get_or}
+use Rattle.std.specs.Prelude.{ℕ, ◌+◌, ◌-◌, max, Bool, not, List, [], ◌∷◌, ◌++◌, eqb, leb, ltb, length, get_or, None}
 use Rattle.std.proofs.Math.Option.{Option, none, some}
 use Rattle.words.specs.Rules.{pick, both, same}
 use Rattle.words.specs.Tables.{find, only}
 use Rattle.types.specs.declared.FileType.{FileType}
 use Rattle.types.specs.declared.FileType.TheVariants.{Directory}
-use Rattle.types.specs.declared.Limit.{Limit}
-use Rattle.types.specs.declared.Limit.TheVariants.{Unlimited}
+use Rattle.types.specs.Nodes.{Limit}
 use Rattle.paths.specs.Path.{cut_path}
-use Rattle.volume.specs.Kinds.{kind_of}
+use Rattle.types.specs.Kinds.{kind_of}
 use Rattle.names.specs.Entering.{on_kind}
 use Rattle.names.specs.Walks.{on_cutting}
 use Rattle.sequences.specs.Fs.{NameSeen, NodeSeen, Fs}
@@ -86,7 +85,7 @@ without_name i x = record {
 
 -- a node with no bytes and no names, named once
 abbrev pub new_seen : FileType → NodeSeen
-new_seen kind = record { kind = kind; limit = Unlimited; links = 1; size = 0; bytes = λ j. 0; names = [] }
+new_seen kind = record { kind = kind; limit = None; links = 1; size = 0; bytes = λ j. 0; names = [] }
 
 -- ---- names followed
 

@@ -2,13 +2,12 @@
 -- room for at least two of them, and a file of its own that is empty and has no limit, first in the volume (`Start`). And a table of paths
 -- that mean a directory, which starts from a new volume.
 -- Assumes nothing.
-use Rattle.std.specs.Prelude.{◌≡◌, true, List, [], ◌∷◌, ℕ, ◌^◌}
+use Rattle.std.specs.Prelude.{◌≡◌, true, List, [], ◌∷◌, ℕ, ◌^◌, Ok}
 use Rattle.std.proofs.Math.Option.{Option, none, some}
 use Rattle.std.proofs.Common.{arith}
 use Rattle.words.specs.Bytes.{Bytes}
 use Rattle.words.specs.Tables.{Each}
 use Rattle.types.specs.Outcomes.{done}
-use Rattle.types.specs.declared.Answer.TheVariants.{Done}
 use Rattle.types.specs.declared.Expected.TheVariants.{Any}
 use Rattle.paths.specs.Boundary.{byte_a, byte_b, path8, path9, path10, path11}
 use Rattle.paths.specs.Path.{slash, dot, name_allowed}
@@ -48,7 +47,7 @@ HasSize z (some x) = x.size ≡ z
 
 abbrev pub ComesOut : List ℕ → Call → Comes → Type 0
 ComesOut l c (refused_with k) = (reply_number (run c l).reply ≡ k) × ((run c l).memory ≡ l)
-ComesOut l c (answered k) = (run c l).reply ≡ told (Done k)
+ComesOut l c (answered k) = (run c l).reply ≡ told (Ok k)
 ComesOut l c (gives k bs) = (run c l).reply ≡ filled (done k bs)
 ComesOut l c (rows_are cs) = (shown (run c l).memory).store.chunks ≡ cs
 ComesOut l c (free_are ps) = free (shown (run c l).memory).store.allocator ≡ ps

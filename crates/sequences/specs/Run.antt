@@ -1,10 +1,11 @@
 -- Believed: calls run on one memory, by the equations that the public functions are proved to meet.
 -- Assumes nothing.
-use Rattle.std.specs.Prelude.{ℕ, Bool, List, [], ◌∷◌, eqb}
+use Rattle.std.specs.Prelude.{ℕ, Bool, List, [], ◌∷◌, eqb, Result}
 use Rattle.words.specs.Rules.{pick}
 use Rattle.types.specs.Answers.{number, search_number}
 use Rattle.types.specs.Outcomes.{Outcome}
-use Rattle.types.specs.declared.Answer.{Answer}
+use Rattle.types.specs.Answers.{Answer}
+use Rattle.types.specs.declared.Error.{Error}
 use Rattle.types.specs.declared.Search.{Search}
 use Rattle.volume.specs.Fresh as Fresh
 use Rattle.names.specs.Listing.{Listed, listed_number}
@@ -17,7 +18,7 @@ pub data Reply : Type 0 where
   told : Answer → Reply
   filled : Outcome → Reply
   entry : Listed → Reply
-  searched : Search → Reply
+  searched : Result Search Error → Reply
 
 -- 0, or the number of a refusal
 abbrev pub reply_number : Reply → ℕ

@@ -1,12 +1,12 @@
 -- What the whole check means: it accepts exactly what is sound.
 -- Assumes nothing.
-use mathlib.Core.Path.{◌≡◌, ap}
+use Rattle.std.specs.Prelude.{Option, Some, Ok, Err, ok_or}
+use mathlib.Core.Path.{◌≡◌, refl, ap}
 use mathlib.Core.Bool.{true, false}
 use mathlib.Core.List.{List}
 use Prim.Native.Nat.{ℕ, ◌≤◌, ◌<◌}
 use native.Mathlib.Omega.{arith}
 use lib.ListN.{length}
-use denote.Enum.Declared.{tag_of}
 use Rattle.words.specs.Bytes.{Bytes}
 use Rattle.words.specs.Tables.{Asc}
 use Rattle.words.specs.Rules.{Says}
@@ -16,14 +16,14 @@ use Rattle.words.proofs.Rules.{says_map, says_both, says-and, says-true, true-sa
 use Rattle.allocator.specs.Allocator.{free}
 use Rattle.allocator.proofs.Sizes.{accepted-bounds}
 use Rattle.volume.specs.declared.Layout.{Layout}
-use Rattle.volume.specs.declared.Place.{Place}
-use Rattle.volume.specs.declared.Place.TheVariants.{At}
 use Rattle.volume.specs.Volume.{Names, Store, Volume, shown}
-use Rattle.volume.specs.Layouts.{layout_in}
+use Rattle.volume.specs.Layouts.{layout_in, place_if}
+use Rattle.types.specs.declared.Error.{Error}
+use Rattle.types.specs.declared.Error.TheVariants.{UnsoundMemory}
+use Rattle.types.proofs.Results.{or-given, or-refused}
 use Rattle.volume.specs.Framed.{Framed}
 use Rattle.volume.specs.Sound.{node, DirectoryThere, NodeThere, node_before, entry_before, Named, Stored, Good, Sound}
-use Rattle.volume.specs.contracts.Place.{the_type}
-use Rattle.volume.proofs.GeometryRules.{place-fails, place-passes, place-layout}
+use Rattle.volume.proofs.GeometryRules.{nowhere, somewhere, place-fails, place-passes, place-layout}
 use Rattle.volume.proofs.Laid.{framed-formed}
 use Rattle.volume.proofs.SoundWords.{size-accepted}
 use Rattle.tables.specs.Tables.{Ready}
@@ -37,9 +37,12 @@ use Rattle.soundness.proofs.OwnerRules.{says-owned}
 
 -- ---- the rules, group by group
 
-pub says-ordered : (a : Names) → Says (Asc node_before a.nodes × Asc entry_before a.entries) (ordered a)
+says-ordered : (a : Names) → Says (Asc node_before a.nodes × Asc entry_before a.entries) (ordered a)
 unfolding ordered
 says-ordered a = says_both (says-node-order a.nodes) (says-entry-order a.entries)
+
+pub ordered_nodes : (a : Names) → ordered a ≡ true → Asc node_before a.nodes
+ordered_nodes a e = (says-true (says-ordered a) e).0
 
 pub says-named : (a : Names) → Says (Named a) (named a)
 unfolding named numbered related
@@ -82,7 +85,7 @@ says-good v pos room =
 size-there : (l : List ℕ) → Framed l → 0 < (shown l).store.allocator.chunk_size
 size-there l f = omega (arith, accepted-bounds (shown l).store.allocator.chunk_size (size-accepted l f))
 
-pub room-there : (l : List ℕ) → Framed l → (shown l).store.chunk_room ≤ 4096
+room-there : (l : List ℕ) → Framed l → (shown l).store.chunk_room ≤ 4096
 unfolding shown
 room-there l f = f.headed.placed.chunks.1
 
@@ -102,16 +105,27 @@ true-sound l s = true-says (says-sound l) s
 pub framed-ready : (l : List ℕ) → Bytes l → Framed l → {y : Layout} → y ≡ layout_in l → Ready l y
 framed-ready l b f e = record { formed = framed-formed l b f; layout = unfold shown in e }
 
+-- what the check answers, by its test
+pub opens-not : (l : List ℕ) → sound l ≡ false → Err UnsoundMemory ≡ place_if_sound l
+opens-not l e = ap (λ (o : Option Layout). ok_or o UnsoundMemory) (nowhere (sound l) (layout_in l) e)
+
+pub opens : (l : List ℕ) → sound l ≡ true → {y : Layout} → y ≡ layout_in l → Ok y ≡ place_if_sound l
+opens l e k = ap (λ (o : Option Layout). ok_or o UnsoundMemory) (somewhere (sound l) (layout_in l) e k)
+
 -- a place that was given says whether the memory is sound, and where its areas start
-module _ (l : List ℕ) {r : Place} (h : r ≡ place_if_sound l) where
-  pub not_opened : tag_of the_type r ≡ 1 → sound l ≡ false
-  not_opened t = place-fails (sound l) (layout_in l) h t
+module _ (l : List ℕ) where
+  pub not_opened : {e : Error} → Err e ≡ place_if_sound l → (sound l ≡ false) × (e ≡ UnsoundMemory)
+  not_opened h = let n = or-refused (place_if (sound l) (layout_in l)) UnsoundMemory h in (place-fails (sound l) (layout_in l) refl n.0, n.1)
 
-  pub opened-sound : tag_of the_type r ≡ 0 → sound l ≡ true
-  opened-sound t = place-passes (sound l) (layout_in l) h t
+  module _ {y : Layout} (h : Ok y ≡ place_if_sound l) where
+    opened-place : place_if (sound l) (layout_in l) ≡ Some y
+    opened-place = or-given (place_if (sound l) (layout_in l)) UnsoundMemory h
 
-  pub opened-good : tag_of the_type r ≡ 0 → Good (shown l)
-  opened-good t = (sound-true l (opened-sound t)).good
+    pub opened-sound : sound l ≡ true
+    opened-sound = place-passes (sound l) (layout_in l) refl opened-place
 
-  pub opened-ready : {y : Layout} → r ≡ At y → Bytes l → Ready l y
-  opened-ready {y} k b = framed-ready l b (sound-true l (opened-sound (ap (tag_of the_type) k))).framed (place-layout (sound l) (layout_in l) h k)
+    pub opened-good : Good (shown l)
+    opened-good = (sound-true l opened-sound).good
+
+    pub opened-ready : Bytes l → Ready l y
+    opened-ready b = framed-ready l b (sound-true l opened-sound).framed (place-layout (sound l) (layout_in l) refl opened-place)

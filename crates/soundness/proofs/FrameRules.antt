@@ -1,5 +1,6 @@
 -- Laws of the frame: the test says whether bytes are framed, and what its code finds.
 -- Assumes nothing.
+use Rattle.std.specs.Prelude.{Option}
 use mathlib.Core.Path.{◌≡◌, refl, sym, ap, ◌∙◌}
 use mathlib.Core.Bool.{Bool, true, false}
 use mathlib.Core.List.{List}
@@ -9,10 +10,9 @@ use lib.ListN.{length, take, drop}
 use lib.Dec.{eqb, leb}
 use Rattle.words.specs.Bytes.{word, part}
 use Rattle.words.specs.Rules.{both, Says, holds}
-use Rattle.words.specs.Tests.{all_zero}
 use Rattle.words.proofs.Parts.{length_part}
 use Rattle.words.proofs.Numbers.{num-part}
-use Rattle.words.proofs.Joined.{both_false, upto_all}
+use Rattle.words.proofs.Joined.{both_false}
 use Rattle.words.proofs.Rules.{says_map, says_both, says-and, says-upto, says-eqb, says-leb, says-itself, says-true, go_on}
 use Rattle.words.proofs.Blocks.{says-zeros}
 use Rattle.allocator.specs.Sizes.{accepted_size}
@@ -21,7 +21,6 @@ use Rattle.allocator.specs.Words.{well_marked}
 use Rattle.volume.specs.Header.{at_chunk_room, at_chunk_size, at_chunks_used, at_entries_used, at_entry_room, at_form, at_free_count, at_marker, at_node_room, at_nodes_used}
 use Rattle.volume.specs.Rows.{node_row, entry_row, chunk_row}
 use Rattle.volume.specs.Volume.{form, at_nodes, at_entries, at_chunks}
-use Rattle.volume.specs.declared.Place.{Place}
 use Rattle.volume.specs.declared.Layout.{Layout}
 use Rattle.volume.specs.Geometry.{placed}
 use Rattle.volume.specs.Layouts.{layout_in, place_if, place_of}
@@ -76,7 +75,7 @@ pub counts-over : (a b : Bool) → b ≡ false → false ≡ both a b
 counts-over a b e = rw e (sym (both_false a))
 
 -- the place that a header's rooms give, where the rest of it holds
-pub header-place : (l : List ℕ) {n e c : ℕ} {r : Place} → leb 64 (length l) ≡ true → eqb (word l at_form) form ≡ true → n ≡ word l at_node_room → e ≡ word l at_entry_room → c ≡ word l at_chunk_room → r ≡ place_of n e c (length l)
+pub header-place : (l : List ℕ) {n e c : ℕ} {r : Option Layout} → leb 64 (length l) ≡ true → eqb (word l at_form) form ≡ true → n ≡ word l at_node_room → e ≡ word l at_entry_room → c ≡ word l at_chunk_room → r ≡ place_of n e c (length l)
     → true ≡ both (leb (word l at_nodes_used) (word l at_node_room)) (both (leb (word l at_entries_used) (word l at_entry_room)) (leb (word l at_chunks_used) (word l at_chunk_room))) → r ≡ place_if (headed l) (layout_in l)
 unfolding headed
 header-place l a f p q t h k =
@@ -86,10 +85,6 @@ header-place l a f p q t h k =
     both_yes : (a b : Bool) → b ≡ true → a ≡ both a b
     both_yes true b e = unfold both in sym e
     both_yes false b e = unfold both in refl
-
-pub any-rows : (s : ℕ) (l : List ℕ) (at used room : ℕ) {r : Bool} → r ≡ all_zero (part l (at + s * used) (s * (room - used))) → r ≡ rows_formed (λ _. true) s l at used room
-unfolding rows_formed
-any-rows s l at used room e = go_on _ _ (upto_all used) e
 
 -- rows of a table, with numbers that were read
 pub rows_at : (row : ℕ → Bool) (s : ℕ) (l : List ℕ) {at used room a u m : ℕ} {r : Bool} → at ≡ a → used ≡ u → room ≡ m → r ≡ rows_formed row s l at used room → r ≡ rows_formed row s l a u m

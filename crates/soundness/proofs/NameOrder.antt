@@ -4,28 +4,22 @@ use mathlib.Core.Path.{◌≡◌, refl, sym, ap, ◌∙◌}
 use mathlib.Core.Bool.{Bool, true, false, not, false≢true}
 use mathlib.Core.Logic.{inl, inr}
 use mathlib.Core.List.{List}
-use Prim.Native.Nat.{ℕ, ◌+◌, ◌-◌, ◌*◌, ◌≤◌, ◌<◌}
+use Prim.Native.Nat.{ℕ, ◌+◌, ◌-◌, ◌≤◌, ◌<◌}
 use native.Mathlib.Omega.{arith}
 use lib.Dec.{ltb, eqb}
-use lib.ListN.{length, set, length-set}
-use lib.Seq.{get_or-set_same, get_or-set_other}
+use lib.ListN.{length}
 use borrow.Author.Tests.{not-true}
-use Rattle.words.specs.Bytes.{part, num, Bytes}
+use Rattle.words.specs.Bytes.{Bytes}
 use Rattle.words.specs.Rules.{both, pick, same, Says, holds, fails}
+use Rattle.words.specs.Seek.{FallsBelow, SplitsAt}
 use Rattle.words.specs.Tests.{rank}
-use Rattle.words.proofs.Parts.{length_part}
-use Rattle.words.proofs.Numbers.{num-part, bytes-part}
 use Rattle.words.proofs.Blocks.{says_same}
 use Rattle.words.proofs.RankOrder.{rank_same}
 use Rattle.words.proofs.Rules.{says-true, true-says, says-false, false-says, says_both, says-eqb, says-ltb, says-not, says-upto, upto-fail}
-use Rattle.volume.specs.Rows.{Entry, read_entry, entry_row, name_start}
-use Rattle.volume.specs.declared.Layout.{Layout}
-use Rattle.volume.specs.Volume.{shown}
+use Rattle.volume.specs.Rows.{Entry}
 use Rattle.volume.specs.Search.{PairBefore, pair_before}
 use Rattle.volume.proofs.PairOrder.{says-pair, pair-trans}
-use Rattle.tables.specs.Tables.{Ready, entry_at}
-use Rattle.tables.proofs.ReadyVolume.{rooms, count_entries, name-there}
-use Rattle.tables.proofs.ReadyTables.{entry-table, row-there}
+use Rattle.tables.specs.Tables.{entry_at}
 use Rattle.soundness.specs.EntryRules.{same_name, name_new}
 use Rattle.soundness.specs.NameOrder.{name_before, row_at, InOrder, PlaceOf, PutIn}
 
@@ -76,16 +70,6 @@ behind-other a b d h = true-says (says-before b a) (go (says-eqb a.parent b.pare
 abbrev pub Differ : Entry → Entry → Bool → Type 0
 Differ a b r = (r ≡ not (same_name a b)) × (r ≡ true → name_before a b ≡ false → name_before b a ≡ true)
 
--- a name is a part of the volume
-pub name-bytes : (l : List ℕ) (y : Layout) (r : Ready l y) → Bytes l → (i : ℕ) → i < length (shown l).names.entries → Bytes (entry_at (shown l).names.entries i).name
-unfolding read_entry
-name-bytes l y r b i h =
-    let at = y.entries + entry_row * i in
-    let inside : at + entry_row ≤ length l = omega (arith, rooms l y r, count_entries l) in
-    let long = length_part l at entry_row inside in
-    let few : num 4 (part l at entry_row) 20 ≤ 256 = rw (num-part 4 l at entry_row 20 (omega arith)) (name-there l y r i h) in
-    rw (← row-there (entry-table l y r) i h refl) (bytes-part (part l at entry_row) name_start (num 4 (part l at entry_row) 20) (bytes-part l at entry_row b inside) (omega arith))
-
 module _ (a b : Entry) {x y : ℕ} (p : x ≡ a.parent) (q : y ≡ b.parent) where
   pub before-apart-parents : (x ≡ y → ⊥) → ltb x y ≡ name_before a b
   unfolding name_before pair_before pick
@@ -110,41 +94,21 @@ module _ (a b : Entry) {x y : ℕ} (p : x ≡ a.parent) (q : y ≡ b.parent) whe
 
 module _ (es : List Entry) (order : List ℕ) (n : ℕ) where
   -- whether the row at a place is before row n
-  abbrev under : ℕ → Bool
+  abbrev pub under : ℕ → Bool
   under p = name_before (entry_at es (row_at order p)) (entry_at es n)
 
-  -- those below low are, those from high on are not
-  pub record Between (low high : ℕ) : Type 0 where
-    pub bound : (low ≤ high) × (high ≤ n)
-    pub before : (p : ℕ) → p < low → under p ≡ true
-    pub behind : (p : ℕ) → high ≤ p → p < n → under p ≡ false
-
-  pub all-between : Between 0 n
-  all-between = record { bound = (omega arith, omega arith); before = λ p h. absurd (omega arith); behind = λ p h k. absurd (omega arith) }
+  pub place-split : {i : ℕ} → SplitsAt under n i → PlaceOf es order n i
+  place-split s = record { bound = s.bound; before = s.holds; behind = s.fails }
 
   module _ (o : InOrder es order n) where
-    module _ (low high : ℕ) (w : Between low high) where
-      under-falls : (p q : ℕ) → p < q → q < n → under p ≡ false → under q ≡ false
-      under-falls p q h k e =
-          false-says (says-before (entry_at es (row_at order q)) (entry_at es n))
-          (λ z. false≢true (sym e ∙ before-trans (entry_at es (row_at order p)) (entry_at es (row_at order q)) (entry_at es n) (o.ascend p q h k) (true-says (says-before (entry_at es (row_at order q)) (entry_at es n)) z)))
-
-      pub upper-half : (m : ℕ) → low ≤ m → m < high → under m ≡ true → Between (m + 1) high
-      upper-half m l h e = record { bound = (omega arith, w.bound.1); before = λ p k. go p k (says-ltb p m); behind = w.behind }
-        where
-          go : (p : ℕ) → p < m + 1 → {t : Bool} → Says (p < m) t → under p ≡ true
-          go p k (holds b) = before-trans (entry_at es (row_at order p)) (entry_at es (row_at order m)) (entry_at es n) (o.ascend p m b (omega (arith, w.bound.1))) e
-          go p k (fails b) = let z : p ≡ m = omega arith in rw z e
-
-      pub lower-half : (m : ℕ) → low ≤ m → m < high → under m ≡ false → Between low m
-      lower-half m l h e = record { bound = (l, omega (arith, w.bound.1)); before = w.before; behind = λ p k b. go p k b (says-ltb m p) }
-        where
-          go : (p : ℕ) → m ≤ p → p < n → {t : Bool} → Says (m < p) t → under p ≡ false
-          go p k b (holds c) = under-falls m p c b e
-          go p k b (fails c) = let z : p ≡ m = omega arith in rw z e
-
-      pub none_between : high ≤ low → PlaceOf es order n low
-      none_between h = record { bound = omega (arith, w.bound.0, w.bound.1); before = w.before; behind = λ p k b. w.behind p (omega arith) b }
+    pub under-falls : FallsBelow under n
+    under-falls = record { falls = λ p q h k e. go p q h k e (says-ltb p q) }
+      where
+        go : (p q : ℕ) → p ≤ q → q < n → under p ≡ false → {t : Bool} → Says (p < q) t → under q ≡ false
+        go p q h k e (holds b) =
+            false-says (says-before (entry_at es (row_at order q)) (entry_at es n))
+            (λ z. false≢true (sym e ∙ before-trans (entry_at es (row_at order p)) (entry_at es (row_at order q)) (entry_at es n) (o.ascend p q b k) (true-says (says-before (entry_at es (row_at order q)) (entry_at es n)) z)))
+        go p q h k e (fails b) = let z : q ≡ p = omega arith in rw z e
 
     -- ---- whether the name is new there
 
@@ -245,40 +209,3 @@ module _ (es : List Entry) (order : List ℕ) (n : ℕ) where
 -- of no rows any array is in order
 pub order-start : (es : List Entry) (order : List ℕ) → length order ≡ 4096 → InOrder es order 0
 order-start es order e = record { long = e; rows = λ p h. absurd (omega arith); ascend = λ p q h k. absurd (omega arith); all = λ k h. absurd (omega arith) }
-
--- ---- for the code: rows moved up, the last one first
-
-module _ (order : List ℕ) (n place : ℕ) where
-  -- those from k on are moved
-  pub record MovedTo (k : ℕ) (l : List ℕ) : Type 0 where
-    pub bound : (place ≤ k) × (k ≤ n)
-    pub long : length l ≡ length order
-    pub before : (p : ℕ) → p < k → row_at l p ≡ row_at order p
-    pub behind : (p : ℕ) → k ≤ p → p < n → row_at l (p + 1) ≡ row_at order p
-
-  pub moved-start : place ≤ n → MovedTo n order
-  moved-start h = record { bound = (h, omega arith); long = refl; before = λ p b. refl; behind = λ p b c. absurd (omega arith) }
-
-  module _ {k : ℕ} {l : List ℕ} (w : MovedTo k l) (room : n < length order) where
-    pub moved-turn : place < k → MovedTo (k - 1) (set l k (row_at l (k - 1)))
-    moved-turn h = record {
-      bound = (omega arith, omega (arith, w.bound.1));
-      long = length-set l k (row_at l (k - 1)) ∙ w.long;
-      before = λ p b. get_or-set_other l k p (row_at l (k - 1)) 0 (λ e. omega arith) ∙ w.before p (omega arith);
-      behind = λ p b c. go p b c (says-ltb p k);
-    }
-      where
-        go : (p : ℕ) → k - 1 ≤ p → p < n → {t : Bool} → Says (p < k) t → row_at (set l k (row_at l (k - 1))) (p + 1) ≡ row_at order p
-        go p b c (holds e) =
-            let z : p + 1 ≡ k = omega arith in
-            let y : k - 1 ≡ p = omega arith in
-            rw z (get_or-set_same l k (row_at l (k - 1)) 0 (omega (arith, w.long, w.bound.1)) ∙ rw y (w.before p e))
-        go p b c (fails e) = get_or-set_other l k (p + 1) (row_at l (k - 1)) 0 (λ q. omega arith) ∙ w.behind p (omega arith) c
-
-    pub moved-put : k ≤ place → {x : ℕ} → x ≡ n → PutIn order n place (set l place x)
-    moved-put h {x} e = record {
-      long = length-set l place x ∙ w.long;
-      before = λ p b. get_or-set_other l place p x 0 (λ q. omega arith) ∙ w.before p (omega (arith, w.bound.0));
-      there = get_or-set_same l place x 0 (omega (arith, w.long, w.bound.0, w.bound.1)) ∙ e;
-      behind = λ p b c. get_or-set_other l place (p + 1) x 0 (λ q. omega arith) ∙ w.behind p (omega arith) c;
-    }

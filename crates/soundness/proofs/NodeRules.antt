@@ -1,5 +1,6 @@
 -- What the tests that count entries mean.
 -- Assumes nothing.
+use Rattle.std.specs.Prelude.{None}
 use mathlib.Core.Path.{◌≡◌}
 use mathlib.Core.Bool.{Bool}
 use mathlib.Core.List.{List, []}
@@ -13,7 +14,6 @@ use Rattle.words.proofs.Places.{each-places}
 use Rattle.words.proofs.Rules.{says_map, says_both, says_if, says-either, says-eqb, says-leb}
 use Rattle.types.specs.Nodes.{file_limit}
 use Rattle.types.proofs.Nodes.{says-directory, says-unlimited}
-use Rattle.types.specs.declared.Limit.TheVariants.{Unlimited}
 use Rattle.types.specs.declared.NodeRecord.{NodeRecord}
 use Rattle.volume.specs.Rows.{Entry, read_node}
 use Rattle.volume.specs.Sound.{naming, entries_of, NodeGood}
@@ -21,7 +21,7 @@ use Rattle.soundness.specs.NodeRules.{directory_good, node_good, nodes_good}
 
 module _ (es : List Entry) (r : NodeRecord) where
   abbrev Directories : Type 0
-  Directories = (naming r.node es ≤ 1) × ((r.limit ≡ Unlimited) × ((r.size ≡ entries_of r.node es) × (r.links ≡ 0 → r.size ≡ 0)))
+  Directories = (naming r.node es ≤ 1) × ((r.limit ≡ None) × ((r.size ≡ entries_of r.node es) × (r.links ≡ 0 → r.size ≡ 0)))
 
   says-directory-good : Says Directories (directory_good (naming r.node es) (entries_of r.node es) r)
   unfolding directory_good

@@ -1,5 +1,6 @@
 -- What the tests of chunk rows mean, and what their code finds.
 -- Assumes nothing.
+use Rattle.std.specs.Prelude.{Some, None}
 use mathlib.Core.Path.{◌≡◌, refl, sym, ap, ◌∙◌}
 use mathlib.Core.Bool.{Bool, true, false, not}
 use mathlib.Core.List.{List, []}
@@ -7,8 +8,7 @@ use Prim.Native.Nat.{ℕ, ◌+◌, ◌-◌, ◌*◌, ◌/◌, ◌%◌, ◌≤◌
 use native.Mathlib.Nat.{le-div_iff_mul-le}
 use native.Mathlib.Omega.{arith}
 use lib.Dec.{eqb}
-use lib.ListN.{length, take, drop, get_or}
-use lib.Seq.{drop-drop}
+use lib.ListN.{length, get_or}
 use borrow.Author.Tests.{not-true, not-false}
 use Rattle.words.specs.Bytes.{part}
 use Rattle.words.specs.Rules.{either, Says, holds, fails}
@@ -17,67 +17,45 @@ use Rattle.words.specs.Tables.{Asc, find}
 use Rattle.words.proofs.Order.{each_at}
 use Rattle.words.proofs.Places.{each-places}
 use Rattle.words.proofs.Rules.{says_map, says_both, says-and, says-not, says-ltb}
-use Rattle.words.proofs.Blocks.{says-zero-part, zero-part}
+use Rattle.words.proofs.Blocks.{says-zero-part}
 use Rattle.words.proofs.Multiples.{parts, step-apart}
 use Rattle.types.specs.Sizes.{most_size}
 use Rattle.types.specs.declared.NodeRecord.{NodeRecord}
 use Rattle.types.proofs.Nodes.{says-directory}
-use Rattle.volume.specs.declared.Layout.{Layout}
 use Rattle.volume.specs.declared.ChunkRow.{ChunkRow}
 use Rattle.volume.specs.Rows.{read_node, read_chunk}
-use Rattle.volume.specs.Volume.{Names, Store, shown}
-use Rattle.volume.specs.Framed.{NodeFits}
-use Rattle.volume.specs.Sound.{round_up, node, node_before, ChunkOwned, Owned, NodeGood, Named, Stored, ChunksOwned}
+use Rattle.volume.specs.Volume.{Names, Store}
+use Rattle.volume.specs.Framed.{NodeFits, NamesFits}
+use Rattle.volume.specs.Sound.{round_up, node, node_before, ChunkOwned, Owned, NodeGood, Named, ChunksOwned}
 use Rattle.volume.proofs.Rounding.{lt_up}
-use Rattle.tables.proofs.StoredRows.{Inside, row_inside}
 use Rattle.tables.proofs.NodeRows.{size-most}
-use Rattle.tables.specs.Tables.{Ready, node_at, chunk_at, found_node}
-use Rattle.tables.specs.declared.Found.{Found}
-use Rattle.tables.specs.declared.Found.TheVariants.{At, Nothing}
-use Rattle.tables.proofs.ReadyVolume.{rooms, count-bytes}
-use Rattle.tables.proofs.LentAllocator.{size-bounds}
+use Rattle.tables.specs.Tables.{node_at, chunk_at, found_node, Found}
 use Rattle.tables.proofs.TableSearch.{node-found, node-absent}
 use Rattle.soundness.specs.EntryRules.{is_found}
 use Rattle.soundness.specs.OwnerRules.{tail_zero, owned_by, owned_where, row_owned, chunks_owned}
 
 -- ---- what the code finds
 
--- the byte area, behind the tables
-module _ (l : List ℕ) (y : Layout) (r : Ready l y) where
-  pub chunk_inside : (p s : ℕ) → p + s ≤ length (shown l).store.bytes → y.area + p + s ≤ length l
-  chunk_inside p s h = omega (arith, count-bytes l, rooms l y r)
-
-  -- a part that was lent of it
-  pub tail-lent : (p n : ℕ) {at : ℕ} {b : Bool} → at ≡ y.area + p → b ≡ all_zero (take (at + n - at) (drop at l)) → b ≡ all_zero (part (shown l).store.bytes p n)
-  unfolding shown part
-  tail-lent p n {at} e q = zero-part l at n q ∙ rw (e, (rooms l y r).area, drop-drop p)
-
-  -- a chunk of a row lies in it
-  pub row-chunk-inside : Stored (shown l).store → (i : ℕ) → i < length (shown l).store.chunks → Inside (shown l).store (chunk_at (shown l).store.chunks i)
-  row-chunk-inside t i h = row_inside (shown l).store t (omega (arith, size-bounds l y r)) i h
-
-  -- the size of a node is at most 2^40
-  pub node-size : Named (shown l).names → (i : ℕ) → i < length (shown l).names.nodes → (node_at (shown l).names.nodes i).size ≤ most_size
-  node-size n i h =
-      let a = (shown l).names in
-      size-most a.entries (node_at a.nodes i) (each_at (NodeGood a.entries) a.nodes i (read_node []) n.nodes h) (each_at NodeFits a.nodes i (read_node []) r.formed.fits.names.node_rows h)
+-- the size of a node is at most 2^40
+pub node-size : (a : Names) → NamesFits a → Named a → (i : ℕ) → i < length a.nodes → (node_at a.nodes i).size ≤ most_size
+node-size a f n i h = size-most a.entries (node_at a.nodes i) (each_at (NodeGood a.entries) a.nodes i (read_node []) n.nodes h) (each_at NodeFits a.nodes i (read_node []) f.node_rows h)
 
 -- a row, and where the row of its node was found
 module _ (a : Names) (s : Store) (i : ℕ) {c : ChunkRow} {f : Found} (p : c ≡ chunk_at s.chunks i) (q : f ≡ found_node c.node a.nodes) where
-  pub no-owner : f ≡ Nothing → is_found Nothing ≡ row_owned a s i
+  pub no-owner : f ≡ None → is_found None ≡ row_owned a s i
   unfolding row_owned owned_where is_found
   no-owner e = rw (← p, ← q, e)
 
-  pub by-owner : {k z : ℕ} {r : NodeRecord} {b : Bool} → f ≡ At k → r ≡ node_at a.nodes k → z ≡ s.allocator.chunk_size → b ≡ owned_by z s.bytes c r → b ≡ row_owned a s i
+  pub by-owner : {k z : ℕ} {r : NodeRecord} {b : Bool} → f ≡ Some k → r ≡ node_at a.nodes k → z ≡ s.allocator.chunk_size → b ≡ owned_by z s.bytes c r → b ≡ row_owned a s i
   unfolding row_owned owned_where
   by-owner e k z h = h ∙ rw (k, z, ← p, ← q, e)
 
 -- an owner that can have the chunk, or cannot
-pub is-owner : (k : ℕ) {t r : Bool} → t ≡ r → not t ≡ false → is_found (At k) ≡ r
+pub is-owner : (k : ℕ) {t r : Bool} → t ≡ r → not t ≡ false → is_found (Some k) ≡ r
 unfolding is_found
 is-owner k {t} e h = sym (not-false t h) ∙ e
 
-pub not-owner : {t r : Bool} → t ≡ r → not t ≡ true → is_found Nothing ≡ r
+pub not-owner : {t r : Bool} → t ≡ r → not t ≡ true → is_found None ≡ r
 unfolding is_found
 not-owner {t} e h = sym (not-true t h) ∙ e
 
@@ -123,8 +101,8 @@ module _ (s : ℕ) (pos : 0 < s) (bytes : List ℕ) (c : ChunkRow) where
   says-where rs a = go (found_node c.node rs) refl
     where
       go : (f : Found) → f ≡ found_node c.node rs → Says (Owned s bytes c (find (λ r. eqb r.node c.node) rs)) (owned_where s bytes rs c f)
-      go (At i) e = rw (node-found c.node rs i e).1 (says-by (node_at rs i))
-      go Nothing e = rw (node-absent c.node rs a e) (fails (λ z. z))
+      go (Some i) e = rw (node-found c.node rs i e).1 (says-by (node_at rs i))
+      go None e = rw (node-absent c.node rs a e) (fails (λ z. z))
 
 pub says-owned : (a : Names) (s : Store) → 0 < s.allocator.chunk_size → Asc node_before a.nodes → Says (ChunksOwned a s) (chunks_owned a s)
 unfolding chunks_owned row_owned node

@@ -1,6 +1,6 @@
 -- Laws of the pointers: what their tests mean, the account of the pointers, both ways; and the free pointers as the allocator's words have them.
 -- Assumes nothing.
-use mathlib.Core.Path.{◌≡◌, refl, sym, ◌∙◌}
+use mathlib.Core.Path.{◌≡◌, refl, sym, ap, ◌∙◌}
 use mathlib.Core.Bool.{Bool, true, false}
 use mathlib.Core.List.{List, [], map}
 use Prim.Native.Nat.{ℕ, zero, suc, ◌+◌, ◌*◌, ◌/◌, ◌%◌, ◌≤◌, ◌<◌}
@@ -21,13 +21,8 @@ use Rattle.allocator.specs.Allocator.{Allocator, free, read_allocator}
 use Rattle.allocator.proofs.Accounts.{due-facts, due-one, due-none, due-most}
 use Rattle.allocator.specs.Words.{WordsFormed}
 use Rattle.allocator.proofs.OpenWords as OpenWords
-use Rattle.volume.specs.Header.{at_chunk_room}
 use Rattle.volume.specs.declared.ChunkRow.{ChunkRow}
 use Rattle.volume.specs.Rows.{read_chunk}
-use Rattle.volume.specs.declared.Layout.{Layout}
-use Rattle.volume.specs.Volume.{shown, words_in}
-use Rattle.tables.specs.Tables.{Ready}
-use Rattle.tables.proofs.LentAllocator.{lent_words, words-lent, lent-long, lent-formed}
 use Rattle.soundness.specs.PointerRules.{next_fits, unmarked, marks_after, all_markable, row_pointer, free_pointer, pointers_good}
 use Rattle.soundness.proofs.Marks.{Lined, Markable, Shows, shows-as, shows-none, place-due, all-met, met_all, says_all, shows-pass, all_first, markable-same}
 
@@ -138,34 +133,27 @@ module _ (s next : ℕ) (pos : 0 < s) (room : next ≤ 4096 * s) (al : next % s 
       says_map (λ t p. rw (← rows-counted cs p, ← free-counted ws p) (account-of (tests-of t) p)) (λ a. marks-of (λ p. rw (rows-counted cs p, free-counted ws p) (a p)))
       (says_both (says_all s next (row_pointer cs) unmarked (length cs)) (says_both (says_all s next (free_pointer ws) rows_marked (length ws)) (says-eqb (length cs + length ws) (next / s))))
 
--- ---- the free pointers of a volume
+-- ---- the free pointers of an allocator, in the words that it was read from
 
-module _ (l : List ℕ) (y : Layout) (r : Ready l y) where
-  abbrev allocator : Allocator
-  allocator = (shown l).store.allocator
+module _ {a : Allocator} {w : List ℕ} (e : read_allocator w ≡ a) (f : WordsFormed w) where
+  count-read : a.free_count ≡ word w 16
+  count-read = unfold read_allocator in ap (λ b. b.free_count) (sym e)
 
-  count_fits : allocator.free_count ≤ word l at_chunk_room
-  count_fits = unfold shown in r.formed.fits.store.free
+  pub count_room : 128 + 8 * a.free_count ≤ length w
+  count_room = omega (arith, f.count, count-read)
 
-  pub count_room : 128 + 8 * allocator.free_count ≤ length (lent_words l y r)
-  count_room = omega (arith, lent-long l y r, count_fits)
+  free-length : length (free a) ≡ a.free_count
+  unfolding read_allocator
+  free-length = rw (count-read, ← e) (OpenWords.free-length w f)
 
-  words-formed : WordsFormed (words_in l)
-  words-formed = rw words-lent at (lent-formed l y r)
+  free-at : (i : ℕ) → i < a.free_count → get_or (free a) i 0 ≡ free_word w i
+  free-at i h = rw (← e) (OpenWords.free-at w f i (omega (arith, count-read)))
 
-  free-length : length (free allocator) ≡ allocator.free_count
-  free-length = unfold shown read_allocator in OpenWords.free-length (words_in l) words-formed
-
-  free-at : (i : ℕ) → i < allocator.free_count → get_or (free allocator) i 0 ≡ free_word (words_in l) i
-  free-at i h = unfold shown read_allocator in OpenWords.free-at (words_in l) words-formed i h
-
-  -- the free pointers, as they stand in the part that is lent
-  pub free-marked : (s next : ℕ) (m : List ℕ) {k : List ℕ} {count : ℕ} {b : Bool} → k ≡ m → count ≡ allocator.free_count → b ≡ all_markable s next (free_word (lent_words l y r)) count k → b ≡ all_markable s next (free_pointer (free allocator)) (length (free allocator)) m
-  free-marked s next m h e q =
-      q ∙ rw (h, words-lent l y r, e, free-length) (markable-same s (free_word (words_in l)) (free_pointer (free allocator)) m next allocator.free_count (λ i h. sym (free-at i h)))
+  pub free-marked : (s next : ℕ) (m : List ℕ) {k : List ℕ} {count : ℕ} {b : Bool} → k ≡ m → count ≡ a.free_count → b ≡ all_markable s next (free_word w) count k → b ≡ all_markable s next (free_pointer (free a)) (length (free a)) m
+  free-marked s next m h e q = q ∙ rw (h, e, free-length) (markable-same s (free_word w) (free_pointer (free a)) m next a.free_count (λ i h. sym (free-at i h)))
 
   -- as many as there are
-  pub as_many : (q : ℕ) {used count t : ℕ} → used ≡ length (shown l).store.chunks → count ≡ allocator.free_count → t ≡ q → eqb (used + count) t ≡ eqb (length (shown l).store.chunks + length (free allocator)) q
+  pub as_many : (q : ℕ) {used n count t : ℕ} → used ≡ n → count ≡ a.free_count → t ≡ q → eqb (used + count) t ≡ eqb (n + length (free a)) q
   as_many q h e f = rw (h, e, f, free-length)
 
 -- ---- for the code: numbers that it read
@@ -173,11 +161,5 @@ module _ (l : List ℕ) (y : Layout) (r : Ready l y) where
 pub mul-fits : (c s : ℕ) → c ≤ 4096 → s ≤ 65536 → c * s < 18446744073709551616
 mul-fits c s h k = omega (arith, mul-le-mul h k)
 
-pub next-there : (s next area c : ℕ) → c ≤ 4096 → next_fits s next area c ≡ true → next ≤ 4096 * s
-next-there s next area c h e = next_low s next c h (says-true (says-next s next area c) e).1.1
-
-pub next-as : {s t n m a b c d : ℕ} {r : Bool} → s ≡ t → n ≡ m → a ≡ b → c ≡ d → r ≡ next_fits s n a c → r ≡ next_fits t m b d
-next-as es en ea ec e = e ∙ rw (es, en, ea, ec)
-
-pub pointers-as : (cs : List ChunkRow) (ws : List ℕ) {s t n m : ℕ} {r : Bool} → s ≡ t → n ≡ m → r ≡ pointers_good s n cs ws → r ≡ pointers_good t m cs ws
-pointers-as cs ws es en e = e ∙ rw (es, en)
+pub next_there : (s next area c : ℕ) → c ≤ 4096 → next_fits s next area c ≡ true → next ≤ 4096 * s
+next_there s next area c h e = next_low s next c h (says-true (says-next s next area c) e).1.1

@@ -1,10 +1,9 @@
 -- Inner: the whole check: the frame, then the rules of the tables, grouped as `Good` is: nodes and entries, the chunk store, and what they say of each
 -- other; each group in the scope's order. A rule that searches a table stands behind that table's order.
 -- Assumes nothing.
-use Rattle.std.specs.Prelude.{ℕ, Bool, List, length}
+use Rattle.std.specs.Prelude.{ℕ, Bool, List, length, Result, ok_or}
 use Rattle.words.specs.Rules.{both}
 use Rattle.allocator.specs.Allocator.{free}
-use Rattle.volume.specs.declared.Place.{Place}
 use Rattle.volume.specs.Volume.{Names, Store, Volume, shown}
 use Rattle.volume.specs.Layouts.{layout_in, place_if}
 use Rattle.soundness.specs.FrameRules.{framed}
@@ -13,6 +12,9 @@ use Rattle.soundness.specs.EntryRules.{entries_related, names_once}
 use Rattle.soundness.specs.NodeRules.{nodes_good}
 use Rattle.soundness.specs.PointerRules.{next_fits, pointers_good}
 use Rattle.soundness.specs.OwnerRules.{chunks_owned}
+use Rattle.volume.specs.declared.Layout.{Layout}
+use Rattle.types.specs.declared.Error.{Error}
+use Rattle.types.specs.declared.Error.TheVariants.{UnsoundMemory}
 
 -- ---- nodes and entries
 
@@ -49,5 +51,5 @@ unfoldable pub sound : List ℕ → Bool
 sound l = both (framed l) (good (shown l))
 
 -- where the areas of a sound memory start
-abbrev pub place_if_sound : List ℕ → Place
-place_if_sound l = place_if (sound l) (layout_in l)
+abbrev pub place_if_sound : List ℕ → Result Layout Error
+place_if_sound l = ok_or (place_if (sound l) (layout_in l)) UnsoundMemory

@@ -1,22 +1,20 @@
 -- Inner: rules between entries and the nodes they name, and between entries of one directory, as tests by their places in the tables.
 -- Assumes nothing.
-use Rattle.std.specs.Prelude.{ℕ, Bool, true, false, not, List, length, eqb}
+use Rattle.std.specs.Prelude.{ℕ, Bool, true, false, not, List, length, eqb, Some, None}
 use Rattle.words.specs.Rules.{both, upto, same}
 use Rattle.types.specs.Nodes.{is_directory}
 use Rattle.types.specs.declared.NodeRecord.{NodeRecord}
 use Rattle.volume.specs.Rows.{Entry}
-use Rattle.tables.specs.Tables.{node_at, entry_at, found_node}
-use Rattle.tables.specs.declared.Found.{Found}
-use Rattle.tables.specs.declared.Found.TheVariants.{At, Nothing}
+use Rattle.tables.specs.Tables.{node_at, entry_at, found_node, Found}
 
 -- what a search found is there, is a directory
 unfoldable pub is_found : Found → Bool
-is_found (At i) = true
-is_found Nothing = false
+is_found (Some i) = true
+is_found None = false
 
 unfoldable pub found_directory : List NodeRecord → Found → Bool
-found_directory rs (At i) = is_directory (node_at rs i).kind
-found_directory rs Nothing = false
+found_directory rs (Some i) = is_directory (node_at rs i).kind
+found_directory rs None = false
 
 -- every entry's parent is a directory and its node has a row
 unfoldable pub entry_related : List NodeRecord → Entry → Bool

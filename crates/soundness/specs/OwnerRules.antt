@@ -1,6 +1,6 @@
 -- Inner: rules of chunk rows as tests: whose chunk it is, how far its index may reach, and the zeros above the size.
 -- Assumes nothing.
-use Rattle.std.specs.Prelude.{ℕ, ◌+◌, ◌-◌, ◌/◌, ◌%◌, Bool, false, not, List, length, ltb}
+use Rattle.std.specs.Prelude.{ℕ, ◌+◌, ◌-◌, ◌/◌, ◌%◌, Bool, false, not, List, length, ltb, Some, None}
 use Rattle.words.specs.Bytes.{part}
 use Rattle.words.specs.Rules.{both, either, upto}
 use Rattle.words.specs.Tests.{all_zero}
@@ -9,9 +9,7 @@ use Rattle.types.specs.declared.NodeRecord.{NodeRecord}
 use Rattle.volume.specs.declared.ChunkRow.{ChunkRow}
 use Rattle.volume.specs.Volume.{Names, Store}
 use Rattle.volume.specs.Sound.{round_up}
-use Rattle.tables.specs.Tables.{node_at, chunk_at, found_node}
-use Rattle.tables.specs.declared.Found.{Found}
-use Rattle.tables.specs.declared.Found.TheVariants.{At, Nothing}
+use Rattle.tables.specs.Tables.{node_at, chunk_at, found_node, Found}
 
 -- only a chunk that the size ends in has bytes above it
 unfoldable pub tail_zero : ℕ → List ℕ → ChunkRow → ℕ → Bool
@@ -22,8 +20,8 @@ unfoldable pub owned_by : ℕ → List ℕ → ChunkRow → NodeRecord → Bool
 owned_by s bytes c r = both (not (is_directory r.kind)) (both (ltb c.index (round_up s r.size)) (tail_zero s bytes c r.size))
 
 unfoldable pub owned_where : ℕ → List ℕ → List NodeRecord → ChunkRow → Found → Bool
-owned_where s bytes rs c (At i) = owned_by s bytes c (node_at rs i)
-owned_where s bytes rs c Nothing = false
+owned_where s bytes rs c (Some i) = owned_by s bytes c (node_at rs i)
+owned_where s bytes rs c None = false
 
 -- the chunk in row i has an owner that can have it
 unfoldable pub row_owned : Names → Store → ℕ → Bool

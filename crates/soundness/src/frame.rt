@@ -1,39 +1,36 @@
 // The form of the bytes. Nothing in them is trusted: no number read is used before it is tested.
-ghost use Rattle.std.specs.Prelude.{◌≡◌, true, ◌+◌, ◌*◌, ◌≤◌, length};
-ghost use Rattle.words.specs.Rules.{upto};
-ghost use Rattle.volume.specs.Rows.{chunk_row, entry_row, node_row};
+ghost use Rattle.std.specs.Prelude.{◌≡◌, ℕ, Bool, ◌+◌, ◌*◌, ◌≤◌, ◌<◌, length};
 ghost use Rattle.volume.specs.Layouts.{layout_in, place_if};
 ghost use Rattle.volume.specs.Framed.{Headed};
-ghost use Rattle.volume.specs.RowTests.{node_formed, entry_formed};
 ghost use Rattle.soundness.specs.FrameRules.{headed, marked, rows_formed, areas_formed};
 
-use volume::{Layout, Place};
+use volume::Layout;
 
 // The header's bytes: the allocator's words stand behind it.
 const HEADER: usize = volume::ALLOCATOR;
 
 // Where the areas start, if the header has the form, a geometry that fits the length, and used counts that fit the rooms.
-pub fn read_header(volume: &[u8]) -> Place
+pub fn read_header(volume: &[u8]) -> Option<Layout>
     ensures { result ≡ place_if (headed volume.now) (layout_in volume.now) }
 {
     if volume.len() < HEADER {
-        return Place::Nowhere;
+        return None;
     }
-    if words::get64(volume, 0) != volume::FORM {
-        return Place::Nowhere;
+    if words::get::<8>(volume, 0) != volume::FORM {
+        return None;
     }
-    let nodes = words::get64(volume, volume::NODE_ROOM);
-    let entries = words::get64(volume, volume::ENTRY_ROOM);
-    let chunks = words::get64(volume, volume::CHUNK_ROOM);
+    let nodes = words::get::<8>(volume, volume::NODE_ROOM);
+    let entries = words::get::<8>(volume, volume::ENTRY_ROOM);
+    let chunks = words::get::<8>(volume, volume::CHUNK_ROOM);
     let place = volume::place_tables(nodes, entries, chunks, volume.len() as u64);
-    if nodes < words::get64(volume, volume::NODES_USED) {
-        return Place::Nowhere;
+    if nodes < words::get::<8>(volume, volume::NODES_USED) {
+        return None;
     }
-    if entries < words::get64(volume, volume::ENTRIES_USED) {
-        return Place::Nowhere;
+    if entries < words::get::<8>(volume, volume::ENTRIES_USED) {
+        return None;
     }
-    if chunks < words::get64(volume, volume::CHUNKS_USED) {
-        return Place::Nowhere;
+    if chunks < words::get::<8>(volume, volume::CHUNKS_USED) {
+        return None;
     }
     place
 }
@@ -48,73 +45,29 @@ fn is_marked(volume: &[u8], layout: Layout) -> bool
     allocator::is_marked(&volume[volume::ALLOCATOR..end])
 }
 
-// Whether the node rows in use have the form of one.
-fn node_rows(volume: &[u8], base: usize, used: usize) -> bool
-    requires { base + node_row * used ≤ length volume.now }
-    ensures { result ≡ upto used (λ i. node_formed volume.now (base + node_row * i)) }
+// Whether the rows in use have the form that a test asks for, and the others are zero. The test is told where a row starts.
+fn rows_formed<F: Fn(usize) -> bool>(
+    volume: &[u8],
+    base: usize,
+    size: usize,
+    used: usize,
+    room: usize,
+    formed: F,
+) -> bool
+    requires fits { (used ≤ room) × (base + size * room ≤ length volume.now) }
+    requires asked { (i : ℕ) → i < used → F.pre formed (base + size * i) }
+    ensures { (t : ℕ → Bool) → ((i : ℕ) (b : Bool) → i < used → F.post formed (base + size * i) b → b ≡ t (base + size * i)) → result ≡ rows_formed t size volume.now base used room }
 {
-    let mut i = 0;
-    while i < used {
-        if !volume::node_formed(volume, base + volume::NODE_ROW * i) {
-            return false;
-        }
-        i += 1;
-    }
-    true
-}
-
-// Whether the node rows in use have the form of one, and the others are zero.
-fn nodes_formed(volume: &[u8], base: usize, used: usize, room: usize) -> bool
-    requires { (used ≤ room) × (base + node_row * room ≤ length volume.now) }
-    ensures { result ≡ rows_formed (node_formed volume.now) node_row volume.now base used room }
-{
-    if !node_rows(volume, base, used) {
+    if !(0..used).all(|i| formed(base + size * i)) {
         return false;
     }
-    let rest = base + volume::NODE_ROW * used;
-    let unused = volume::NODE_ROW * (room - used);
+    let rest = base + size * used;
+    let unused = size * (room - used);
     words::is_zero(&volume[rest..rest + unused])
 }
 
-// Whether the entry rows in use have the form of one.
-fn entry_rows(volume: &[u8], base: usize, used: usize) -> bool
-    requires { base + entry_row * used ≤ length volume.now }
-    ensures { result ≡ upto used (λ i. entry_formed volume.now (base + entry_row * i)) }
-{
-    let mut i = 0;
-    while i < used {
-        if !volume::entry_formed(volume, base + volume::ENTRY_ROW * i) {
-            return false;
-        }
-        i += 1;
-    }
-    true
-}
-
-// Whether the entry rows in use have the form of one, and the others are zero.
-fn entries_formed(volume: &[u8], base: usize, used: usize, room: usize) -> bool
-    requires { (used ≤ room) × (base + entry_row * room ≤ length volume.now) }
-    ensures { result ≡ rows_formed (entry_formed volume.now) entry_row volume.now base used room }
-{
-    if !entry_rows(volume, base, used) {
-        return false;
-    }
-    let rest = base + volume::ENTRY_ROW * used;
-    let unused = volume::ENTRY_ROW * (room - used);
-    words::is_zero(&volume[rest..rest + unused])
-}
-
-// Whether the chunk rows that are not in use are zero. The others may have any bytes: what they say is for the rules of the rows.
-fn chunks_formed(volume: &[u8], base: usize, used: usize, room: usize) -> bool
-    requires { (used ≤ room) × (base + chunk_row * room ≤ length volume.now) }
-    ensures { result ≡ rows_formed (λ _. true) chunk_row volume.now base used room }
-{
-    let rest = base + volume::CHUNK_ROW * used;
-    let unused = volume::CHUNK_ROW * (room - used);
-    words::is_zero(&volume[rest..rest + unused])
-}
-
-// Whether the allocator's words and the rows of each table have their form.
+// Whether the allocator's words and the rows of each table have their form. A chunk row in use may have any bytes: what they say is for the
+// rules of the rows.
 pub fn is_formed(volume: &[u8], layout: Layout) -> bool
     requires { Headed volume.now × (layout ≡ layout_in volume.now) }
     ensures { result ≡ areas_formed volume.now }
@@ -122,26 +75,38 @@ pub fn is_formed(volume: &[u8], layout: Layout) -> bool
     if !is_marked(volume, layout) {
         return false;
     }
-    if !nodes_formed(
+    let nodes = words::get::<8>(volume, volume::NODES_USED) as usize;
+    let node_room = words::get::<8>(volume, volume::NODE_ROOM) as usize;
+    if !rows_formed(
         volume,
         layout.nodes,
-        words::get64(volume, volume::NODES_USED) as usize,
-        words::get64(volume, volume::NODE_ROOM) as usize,
+        volume::NODE_ROW,
+        nodes,
+        node_room,
+        |at| volume::node_formed(volume, at),
     ) {
         return false;
     }
-    if !entries_formed(
+    let entries = words::get::<8>(volume, volume::ENTRIES_USED) as usize;
+    let entry_room = words::get::<8>(volume, volume::ENTRY_ROOM) as usize;
+    if !rows_formed(
         volume,
         layout.entries,
-        words::get64(volume, volume::ENTRIES_USED) as usize,
-        words::get64(volume, volume::ENTRY_ROOM) as usize,
+        volume::ENTRY_ROW,
+        entries,
+        entry_room,
+        |at| volume::entry_formed(volume, at),
     ) {
         return false;
     }
-    chunks_formed(
+    let chunks = words::get::<8>(volume, volume::CHUNKS_USED) as usize;
+    let chunk_room = words::get::<8>(volume, volume::CHUNK_ROOM) as usize;
+    rows_formed(
         volume,
         layout.chunks,
-        words::get64(volume, volume::CHUNKS_USED) as usize,
-        words::get64(volume, volume::CHUNK_ROOM) as usize,
+        volume::CHUNK_ROW,
+        chunks,
+        chunk_room,
+        |_| true,
     )
 }

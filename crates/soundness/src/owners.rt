@@ -2,81 +2,72 @@
 ghost use Rattle.std.specs.Prelude.{◌≡◌, ℕ, ◌+◌, ◌≤◌, ◌<◌, length};
 ghost use Rattle.std.specs.Int.Count.{ones};
 ghost use Rattle.types.specs.Sizes.{most_size};
-ghost use Rattle.volume.specs.Volume.{shown};
 ghost use Rattle.volume.specs.Sound.{Named, Stored};
-ghost use Rattle.tables.specs.Tables.{Ready};
-ghost use Rattle.tables.specs.declared.Found.TheVariants.{At};
 ghost use Rattle.soundness.specs.EntryRules.{is_found};
 ghost use Rattle.soundness.specs.OwnerRules.{tail_zero, owned_by, row_owned, chunks_owned};
 
 use crate::nearby::find_near;
-use tables::Found;
+use tables::Tables;
 use types::NodeRecord;
-use volume::{ChunkRow, Layout};
+use volume::ChunkRow;
 
 // Whether the bytes of a chunk above the file's size are zero. Only a chunk that the size ends in has any.
-fn tail_zero(volume: &[u8], layout: Layout, span: u64, row: ChunkRow, size: u64) -> bool
-    requires { Ready volume.now layout × (ones span ≡ 1) × (span ≤ 65536) × (row.pointer + span ≤ length (shown volume.now).store.bytes) }
-    ensures { result ≡ tail_zero span (shown volume.now).store.bytes row size }
+#[tactic(auto, unfolding(words::specs::Rules::either, crate::specs::OwnerRules::tail_zero))]
+fn tail_zero(tables: &Tables, span: u64, row: ChunkRow, size: u64) -> bool
+    requires { (ones span ≡ 1) × (span ≤ 65536) × (row.pointer + span ≤ length tables.now.store.bytes) }
+    ensures { result ≡ tail_zero span tables.now.store.bytes row size }
 {
     if row.index < words::quotient(size, span) {
         return true;
     }
     let used = words::remainder(size, span);
-    let from = layout.area + (row.pointer + used) as usize;
+    let area = tables.area();
+    let from = (row.pointer + used) as usize;
     let rest = (span - used) as usize;
-    words::is_zero(&volume[from..from + rest])
+    words::is_zero(&area[from..from + rest])
 }
 
 // Whether the owner can have the chunk: it is no directory, its size reaches the index, and the bytes above the size are zero. Indexes are
 // compared as u64: one may have any value.
-fn owned_by(volume: &[u8], layout: Layout, span: u64, row: ChunkRow, owner: NodeRecord) -> bool
-    requires { Ready volume.now layout × (ones span ≡ 1) × (span ≤ 65536) × (row.pointer + span ≤ length (shown volume.now).store.bytes) × (owner.size ≤ most_size) }
-    ensures { result ≡ owned_by span (shown volume.now).store.bytes row owner }
+#[tactic(auto, unfolding(words::specs::Rules::both, crate::specs::OwnerRules::owned_by))]
+fn owned_by(tables: &Tables, span: u64, row: ChunkRow, owner: NodeRecord) -> bool
+    requires { (ones span ≡ 1) × (span ≤ 65536) × (row.pointer + span ≤ length tables.now.store.bytes) × (owner.size ≤ most_size) }
+    ensures { result ≡ owned_by span tables.now.store.bytes row owner }
 {
-    let kind = owner.kind;
-    if types::is_directory(kind) {
-        return false;
-    }
-    if volume::round_up(owner.size, span) <= row.index {
-        return false;
-    }
-    tail_zero(volume, layout, span, row, owner.size)
+    !owner.kind.is_directory()
+        && row.index < volume::round_up(owner.size, span)
+        && tail_zero(tables, span, row, owner.size)
 }
 
 // The row of the owner of the chunk in row i, if it can have it, looked for near another row first. The rules of both halves hold already:
 // node rows ascend, and the chunk lies in the area.
-fn find_owner(volume: &[u8], layout: Layout, span: u64, i: usize, near: usize) -> Found
-    requires { Ready volume.now layout × Named (shown volume.now).names × Stored (shown volume.now).store × (span ≡ (shown volume.now).store.allocator.chunk_size) × (i < length (shown volume.now).store.chunks) × (near ≤ 4096) }
-    ensures { (is_found result ≡ row_owned (shown volume.now).names (shown volume.now).store i) × ((k : ℕ) → result ≡ At k → k < 4096) }
+fn find_owner(tables: &Tables, i: usize, near: usize) -> Option<usize>
+    requires { Named tables.now.names × Stored tables.now.store × (i < length tables.now.store.chunks) × (near ≤ 4096) }
+    ensures { (is_found result ≡ row_owned tables.now.names tables.now.store i) × ((k : ℕ) → result ≡ Some k → k < 4096) }
 {
-    let row = tables::chunk_row(volume, layout, i);
-    let found = find_near(volume, layout, row.node, near);
-    let Found::At(k) = found else {
-        return Found::Nothing;
-    };
-    let owner = tables::node_row(volume, layout, k);
-    if !owned_by(volume, layout, span, row, owner) {
-        return Found::Nothing;
+    let _ = &tables.layout;
+    let span = tables.chunk_size();
+    let row = tables.chunk_row(i);
+    let k = find_near(tables, row.node, near)?;
+    let owner = tables.node_row(k);
+    if !owned_by(tables, span, row, owner) {
+        return None;
     }
-    Found::At(k)
+    Some(k)
 }
 
 // Whether every chunk row has an owner that can have its chunk. Rows of one file follow one another.
-pub fn is_owned(volume: &[u8], layout: Layout, span: u64) -> bool
-    requires { Ready volume.now layout × Named (shown volume.now).names × Stored (shown volume.now).store × (span ≡ (shown volume.now).store.allocator.chunk_size) }
-    ensures { result ≡ chunks_owned (shown volume.now).names (shown volume.now).store }
+pub fn is_owned(tables: &Tables) -> bool
+    requires { Named tables.now.names × Stored tables.now.store }
+    ensures { result ≡ chunks_owned tables.now.names tables.now.store }
 {
-    let used = tables::chunks_used(volume, layout);
+    let used = tables.chunks_used();
     let mut near = 0;
-    let mut i = 0;
-    while i < used {
-        let found = find_owner(volume, layout, span, i, near);
-        let Found::At(k) = found else {
+    for i in 0..used {
+        let Some(owner) = find_owner(tables, i, near) else {
             return false;
         };
-        near = k;
-        i += 1;
+        near = owner;
     }
     true
 }

@@ -1,5 +1,6 @@
 -- Laws of `changed`: the row of one node changed, its number kept. The other rows stay, and so do their places.
 -- Assumes nothing.
+use Rattle.std.specs.Prelude.{Some}
 use mathlib.Core.Path.{◌≡◌, refl, sym, ap, ◌∙◌}
 use mathlib.Core.Bool.{Bool, true, false}
 use mathlib.Core.List.{List, [], ◌∷◌}
@@ -21,7 +22,6 @@ use Rattle.volume.specs.Sound.{node_before}
 use Rattle.volume.specs.Steps.{changed, with_node}
 use Rattle.tables.proofs.NodeRows.{number_is}
 use Rattle.tables.specs.Tables.{node_at, found_node}
-use Rattle.tables.specs.declared.Found.TheVariants.{At}
 use Rattle.tables.proofs.TableSearch.{node-found}
 
 -- behind a row of an ascending table no row has its number
@@ -49,13 +49,13 @@ module _ (n : ℕ) (f : NodeRecord → NodeRecord) where
       let b : r.node < (node_at rs i).node = each_at (node_before r) rs i (read_node []) a.0 k in
       rw (ne_eqb r.node n (λ q. omega arith)) (ap (λ (t : List NodeRecord). r ∷ t) (changed-at rs i a.1 k e))
 
-  pub changed-set : (rs : List NodeRecord) (i : ℕ) → Asc node_before rs → At i ≡ found_node n rs → changed n f rs ≡ set rs i (f (node_at rs i))
+  pub changed-set : (rs : List NodeRecord) (i : ℕ) → Asc node_before rs → Some i ≡ found_node n rs → changed n f rs ≡ set rs i (f (node_at rs i))
   changed-set rs i a e =
       let k = node-found n rs i e in
       changed-at rs i a k.0 (number_is n rs (node_at rs i) k.1)
 
   -- the row set where a search found it, in bytes m of a volume that has these nodes
-  pub row-set : (rs : List NodeRecord) (i : ℕ) → Asc node_before rs → At i ≡ found_node n rs → {d : NodeRecord} → d ≡ f (node_at rs i) → (v : Volume) → v.names.nodes ≡ rs → (m : List ℕ) {o : List ℕ} → shown m ≡ v
+  pub row-set : (rs : List NodeRecord) (i : ℕ) → Asc node_before rs → Some i ≡ found_node n rs → {d : NodeRecord} → d ≡ f (node_at rs i) → (v : Volume) → v.names.nodes ≡ rs → (m : List ℕ) {o : List ℕ} → shown m ≡ v
       → o ≡ laid (on_names (with_nodes (set (shown m).names.nodes i d)) (shown m)) → o ≡ laid (on_names (with_node n f) v)
   row-set rs i a h row v same m e q = q ∙ rw (e, same, row) (ap (λ ns. laid (on_names (with_nodes ns) v)) (sym (changed-set rs i a h)))
 

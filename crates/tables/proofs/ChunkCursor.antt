@@ -6,15 +6,14 @@ use mathlib.Core.Bool.{Bool, true, false}
 use mathlib.Core.Logic.{inl, inr}
 use mathlib.Core.List.{List, []}
 use mathlib.Core.Option.{none, some}
-use Prim.Native.Nat.{ℕ, ◌+◌, ◌≤◌, ◌<◌}
+use Prim.Native.Nat.{ℕ, ◌+◌, ◌<◌}
 use native.Mathlib.Omega.{arith}
 use native.Mathlib.Decide.{dec_lt}
-use lib.Dec.{eqb, ltb}
+use lib.Dec.{ltb}
 use lib.ListN.{length}
-use borrow.Author.Tests.{eq-eqb, ne_eqb, lt-ltb, le-ltb}
 use Rattle.words.specs.Rules.{both, Says}
 use Rattle.words.specs.Tables.{Asc, lead}
-use Rattle.words.proofs.Rules.{says-true, true-says, says-false, false-says, says-itself, says-eqb, says-ltb, says_both, stop, go_on}
+use Rattle.words.proofs.Rules.{says-true, true-says, says-false, false-says, says-itself, says-eqb, says-ltb, says_both}
 use Rattle.words.proofs.Order.{asc-map}
 use Rattle.words.proofs.Search.{lead-above, lead-stays, lead-next, asc-falls, find-found, find-missing}
 use Rattle.volume.specs.declared.ChunkRow.{ChunkRow}
@@ -115,16 +114,3 @@ module _ (n k : ℕ) where
 
     pub row-no : both (ltb p (length cs)) (is_chunk n k (chunk_at cs p)) ≡ false → (chunk n k cs ≡ none) × (p ≡ lead (chunk_under n (k + 1)) cs)
     row-no q = row-none (λ h. false-says (says-itself (is_chunk n k (chunk_at cs p))) (λ z. says-false (says_both (says-ltb p (length cs)) (says-itself (is_chunk n k (chunk_at cs p)))) q (h, z)))
-
--- ---- the test, as code makes it: past the rows, another node's row, and the row's index
-
-module _ (n k : ℕ) (cs : List ChunkRow) (p : ℕ) {used : ℕ} (u : used ≡ length cs) where
-  pub test-past : used ≤ p → false ≡ both (ltb p (length cs)) (is_chunk n k (chunk_at cs p))
-  test-past h = stop _ _ (le-ltb p (length cs) (omega arith))
-
-  module _ (h : p < used) {c : ChunkRow} (e : c ≡ chunk_at cs p) where
-    pub test-node : (c.node ≡ n → ⊥) → false ≡ both (ltb p (length cs)) (is_chunk n k (chunk_at cs p))
-    test-node d = go_on _ _ (lt-ltb p (length cs) (omega arith)) (stop _ _ (rw (← e) (ne_eqb c.node n d)))
-
-    pub test-index : c.node ≡ n → eqb c.index k ≡ both (ltb p (length cs)) (is_chunk n k (chunk_at cs p))
-    test-index s = go_on _ _ (lt-ltb p (length cs) (omega arith)) (go_on _ _ (rw (← e) (eq-eqb c.node n s)) (rw e))

@@ -1,5 +1,6 @@
 -- The allocator's words as the part of the volume that is lent, and what a call on them makes of the volume.
 -- Assumes nothing.
+use Rattle.std.specs.Prelude.{}
 use mathlib.Core.Path.{◌≡◌, refl, ap, ◌∙◌}
 use mathlib.Core.Bool.{Bool, true, false}
 use mathlib.Core.List.{List, ◌++◌}
@@ -10,7 +11,7 @@ use lib.ListN.{length, take, drop, length-set}
 use Rattle.words.specs.Bytes.{part, word}
 use Rattle.words.specs.Rules.{pick}
 use Rattle.words.proofs.Parts.{length_part, lent_at}
-use Rattle.types.specs.declared.Answer.{Answer}
+use Rattle.types.specs.Answers.{Answer}
 use Rattle.allocator.specs.Allocator.{Allocator, AllocatorStep, read_allocator, lay_allocator, allocate, release, set_chunk_size}
 use Rattle.allocator.specs.Words.{WordsFormed}
 use Rattle.allocator.proofs.Sizes.{accepted-bounds, accepted-one}

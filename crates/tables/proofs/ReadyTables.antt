@@ -16,7 +16,7 @@ use Rattle.words.proofs.Search.{asc-falls}
 use Rattle.words.proofs.Areas.{Counted, write-row, append-row, insert-rows, remove-rows}
 use Rattle.volume.specs.declared.Layout.{Layout}
 use Rattle.volume.specs.Rows.{read_node, read_entry, read_chunk, lay_node, lay_entry, lay_chunk, chunk_row, entry_row, node_row}
-use Rattle.volume.specs.Volume.{shown, laid, with_next_node, with_nodes, with_entries, with_chunks, on_names, on_store}
+use Rattle.volume.specs.Volume.{Volume, shown, laid, with_next_node, with_nodes, with_entries, with_chunks, on_names, on_store}
 use Rattle.volume.proofs.RowBytes.{node_at_lem}
 use Rattle.volume.proofs.Laid.{Spaced, spaced, nodes-counted, entries-counted, chunks-counted}
 use Rattle.volume.proofs.Framed.{told}
@@ -64,6 +64,18 @@ module _ (l : List ℕ) (y : Layout) (r : Ready l y) where
   -- the next node set
   pub next-set : (next : ℕ) {m : List ℕ} → m ≡ over l 56 (spell 8 next) → m ≡ laid (on_names (with_next_node next) (shown l))
   next-set next em = onto (laid (shown l)) 56 (spell 8 next) (sym r.formed.same) em (write-next (shown l) next)
+
+-- the same of what the bytes are known to show
+
+module _ {l : List ℕ} {y : Layout} (r : Ready l y) {v : Volume} (e : shown l ≡ v) where
+  pub nodes-of : TableIn l read_node lay_node node_row y.nodes v.names.node_room 32 v.names.nodes (λ rs. laid (on_names (with_nodes rs) v))
+  nodes-of = rw e at (node-table l y r)
+
+  pub entries-of : TableIn l read_entry lay_entry entry_row y.entries v.names.entry_room 40 v.names.entries (λ rs. laid (on_names (with_entries rs) v))
+  entries-of = rw e at (entry-table l y r)
+
+  pub chunks-of : TableIn l read_chunk lay_chunk chunk_row y.chunks v.store.chunk_room 48 v.store.chunks (λ rs. laid (on_store (with_chunks rs) v))
+  chunks-of = rw e at (chunk-table l y r)
 
 -- so many rows, and so many more
 rows-add : (s a b : ℕ) → a ≤ b → s * b ≡ s * a + s * (b - a)
@@ -127,20 +139,20 @@ module _ {l : List ℕ} {R : Type 0} {read : List ℕ → R} {lay : R → List �
   none-removed p n e = rw (e, add-zero, take-append-drop) t.same
 
   -- n rows taken out, from row p on
-  pub rows-removed : (p n used : ℕ) {m o q : List ℕ} → used ≡ length rs → p + n ≤ length rs → m ≡ over l (base + s * (p + n) - s * n) (part l (base + s * (p + n)) (base + s * used - (base + s * (p + n))))
-      → o ≡ over m (base + s * used - s * n) (zeros (s * n)) → q ≡ over o head (spell 8 (used - n)) → q ≡ put (take p rs ++ drop (p + n) rs)
-  rows-removed p n used eu h em eo eq =
+  pub rows-removed : (p n used : ℕ) {q : List ℕ} → used ≡ length rs → p + n ≤ length rs
+      → q ≡ over (over (over l (base + s * (p + n) - s * n) (part l (base + s * (p + n)) (base + s * used - (base + s * (p + n))))) (base + s * used - s * n) (zeros (s * n))) head (spell 8 (used - n)) → q ≡ put (take p rs ++ drop (p + n) rs)
+  rows-removed p n used eu h eq =
       let a = mul-add s p n in
       let b = rows-add s (p + n) used (omega arith) in
       let c = rows-add s n used (omega arith) in
       remove-rows t.counted p n used (base + s * (p + n) - s * n) (base + s * (p + n)) (base + s * used - (base + s * (p + n))) (base + s * used - s * n) (s * n) (used - n)
-      t.same eu (omega arith) (omega arith) (omega arith) (omega arith) (omega arith) refl refl em eo eq
+      t.same eu (omega arith) (omega arith) (omega arith) (omega arith) (omega arith) refl refl refl refl eq
 
   -- one of them
-  pub row-removed : (p used : ℕ) {m o q : List ℕ} → used ≡ length rs → p < length rs → m ≡ over l (base + s * (p + 1) - s) (part l (base + s * (p + 1)) (base + s * used - (base + s * (p + 1))))
-      → o ≡ over m (base + s * used - s) (zeros s) → q ≡ over o head (spell 8 (used - 1)) → q ≡ put (remove_at p rs)
+  pub row-removed : (p used : ℕ) {q : List ℕ} → used ≡ length rs → p < length rs
+      → q ≡ over (over (over l (base + s * (p + 1) - s) (part l (base + s * (p + 1)) (base + s * used - (base + s * (p + 1))))) (base + s * used - s) (zeros s)) head (spell 8 (used - 1)) → q ≡ put (remove_at p rs)
   unfolding remove_at
-  row-removed p used {m} {o} {q} eu h em eo eq = rw (mul-one s) at (rows-removed p 1 used {m = m} {o = o} {q = q} eu (omega arith)) em eo eq
+  row-removed p used {q} eu h eq = rw (mul-one s) at (rows-removed p 1 used {q = q} eu (omega arith)) eq
 
 -- a node's number, read by itself
 pub node-key : (l : List ℕ) (y : Layout) (r : Ready l y) (i : ℕ) {x : ℕ} → i < length (shown l).names.nodes → x ≡ word l (y.nodes + node_row * i) → x ≡ (node_at (shown l).names.nodes i).node

@@ -4,7 +4,8 @@ use mathlib.Core.Path.{◌≡◌, sym, ap, ◌∙◌}
 use mathlib.Core.List.{List}
 use Prim.Native.Nat.{ℕ, ◌+◌, ◌-◌, ◌*◌, ◌≤◌, ◌<◌}
 use native.Mathlib.Omega.{arith}
-use lib.ListN.{length, length-drop}
+use lib.ListN.{length, take, drop, length-drop}
+use Rattle.std.proofs.lemmas.List.{take_rest}
 use Rattle.words.specs.Bytes.{word, num}
 use Rattle.words.proofs.Tables.{length-table}
 use Rattle.types.specs.Sizes.{name_room}
@@ -68,6 +69,26 @@ module _ (l : List ℕ) where
           chunks_used = omega (arith, f.store.chunks, count-chunks);
         }
 
+-- what code touches lies inside: the header's words, the allocator's, which end where the node rows begin, and the chunk area
+
+pub header_there : {l : List ℕ} {y : Layout} → Ready l y → 64 ≤ length l
+header_there {l} {y} r = omega (arith, rooms l y r)
+
+pub words_start : {l : List ℕ} {y : Layout} → Ready l y → 64 ≤ y.nodes
+words_start {l} {y} r = omega (arith, rooms l y r)
+
+pub words_end : {l : List ℕ} {y : Layout} → Ready l y → y.nodes ≤ length l
+words_end {l} {y} r = omega (arith, rooms l y r)
+
+pub area_start : {l : List ℕ} {y : Layout} → Ready l y → y.area ≤ length l
+area_start {l} {y} r = omega (arith, rooms l y r)
+
+pub ruleset inside = (header_there, words_start, words_end, area_start)
+
+-- what the bytes are known to show fits
+pub fits-of : {l : List ℕ} {y : Layout} → Ready l y → {v : Volume} → shown l ≡ v → Fits v
+fits-of r e = rw e at r.formed.fits
+
 -- the name of the entry in row i has its place in the row
 pub name-there : (l : List ℕ) (y : Layout) (r : Ready l y) (i : ℕ) → i < length (shown l).names.entries → num 4 l (y.entries + entry_row * i + 20) ≤ name_room
 name-there l y r i h =
@@ -79,6 +100,11 @@ name-there l y r i h =
 pub area-long : (l : List ℕ) (y : Layout) (r : Ready l y) → length l - y.area ≡ length (shown l).store.bytes
 unfolding shown
 area-long l y r = rw (rooms l y r).area (sym (length-drop (at_bytes (word l at_node_room) (word l at_entry_room) (word l at_chunk_room)) l))
+
+-- as code takes it
+pub area-rest : (l : List ℕ) (y : Layout) (r : Ready l y) → take (length l - y.area) (drop y.area l) ≡ (shown l).store.bytes
+unfolding shown
+area-rest l y r = rw (rooms l y r).area (take_rest l (at_bytes (word l at_node_room) (word l at_entry_room) (word l at_chunk_room)))
 
 -- ---- a volume that fits, laid out
 

@@ -1,5 +1,6 @@
 -- A search by halving: that keys in order are what it asks for, its three ends, and that what it finds is the row looked for.
 -- Assumes nothing.
+use Rattle.std.specs.Prelude.{Some, None}
 use mathlib.Core.Path.{◌≡◌, refl, ap}
 use mathlib.Core.Bool.{Bool, true, false}
 use mathlib.Core.List.{List, [], ◌∷◌}
@@ -21,7 +22,6 @@ use Rattle.volume.specs.Rows.{Entry, read_node}
 use Rattle.volume.specs.Search.{node_under, entry_under, chunk_under}
 use Rattle.volume.specs.Sound.{node_before, entry_before, chunk_before}
 use Rattle.volume.proofs.PairOrder.{pair-falls}
-use Rattle.tables.specs.declared.Found.TheVariants.{At, Nothing}
 use Rattle.tables.specs.Tables.{node_at, found_node}
 
 -- ---- a row that does not stand before a key, and a row behind it: that one does not either
@@ -38,17 +38,17 @@ chunk-falls n i a b h e = pair-falls a.node a.index b.node b.index n i h e
 -- ---- the three ends of a search
 
 module _ (n : ℕ) (rs : List NodeRecord) {i : ℕ} (e : i ≡ lead (node_under n) rs) where
-  pub node-past : length rs ≤ i → Nothing ≡ found_node n rs
+  pub node-past : length rs ≤ i → None ≡ found_node n rs
   unfolding found_node
   node-past h = pick-false _ _ _ _ (rw (← e) (le-ltb i (length rs) h)) refl
 
-  pub node-other : {x : ℕ} → i < length rs → x ≡ (node_at rs i).node → (x ≡ n → ⊥) → Nothing ≡ found_node n rs
+  pub node-other : {x : ℕ} → i < length rs → x ≡ (node_at rs i).node → (x ≡ n → ⊥) → None ≡ found_node n rs
   unfolding found_node
   node-other h q k = pick_true _ _ _ _ (rw (← e) (lt-ltb i (length rs) h)) (pick-false _ _ _ _ (rw (← e, ← q) (ne_eqb _ _ k)) refl)
 
-  pub node-here : {x : ℕ} → i < length rs → x ≡ (node_at rs i).node → x ≡ n → At i ≡ found_node n rs
+  pub node-here : {x : ℕ} → i < length rs → x ≡ (node_at rs i).node → x ≡ n → Some i ≡ found_node n rs
   unfolding found_node
-  node-here h q k = pick_true _ _ _ _ (rw (← e) (lt-ltb i (length rs) h)) (pick_true _ _ _ _ (rw (← e, ← q) (eq-eqb _ _ k)) (ap At e))
+  node-here h q k = pick_true _ _ _ _ (rw (← e) (lt-ltb i (length rs) h)) (pick_true _ _ _ _ (rw (← e, ← q) (eq-eqb _ _ k)) (ap Some e))
 
 -- a number stands at one place of an ascending table
 lead-at : (n : ℕ) (rs : List NodeRecord) (i : ℕ) → Asc node_before rs → i < length rs → (node_at rs i).node ≡ n → i ≡ lead (node_under n) rs
@@ -61,7 +61,7 @@ lead-at n (r ∷ rs) (suc i) a h e =
     rw (lt-ltb r.node n (omega arith)) (ap suc (lead-at n rs i a.1 k e))
 
 -- so a search finds it there
-pub found_at : (n : ℕ) (rs : List NodeRecord) (i : ℕ) → Asc node_before rs → i < length rs → (node_at rs i).node ≡ n → At i ≡ found_node n rs
+pub found_at : (n : ℕ) (rs : List NodeRecord) (i : ℕ) → Asc node_before rs → i < length rs → (node_at rs i).node ≡ n → Some i ≡ found_node n rs
 found_at n rs i a h e = node-here n rs (lead-at n rs i a h e) h refl e
 
 -- ---- what is found is the row looked for, and where nothing is found there is none
@@ -73,14 +73,14 @@ module _ (n : ℕ) where
   passes : (a b : NodeRecord) → node_before a b → node_under n a ≡ false → eqb a.node n ≡ false → eqb b.node n ≡ false
   passes a b h e q = ne_eqb b.node n (λ z. omega (arith, ltb-false a.node n e))
 
-  pub node-found : (rs : List NodeRecord) (i : ℕ) → At i ≡ found_node n rs → (i < length rs) × (find (λ r. eqb r.node n) rs ≡ some (node_at rs i))
+  pub node-found : (rs : List NodeRecord) (i : ℕ) → Some i ≡ found_node n rs → (i < length rs) × (find (λ r. eqb r.node n) rs ≡ some (node_at rs i))
   unfolding found_node pick
   node-found rs i e = go (ltb k (length rs)) (says-ltb k (length rs)) (eqb (node_at rs k).node n) refl e
     where
       k : ℕ
       k = lead (node_under n) rs
 
-      go : (a : Bool) → Says (k < length rs) a → (b : Bool) → eqb (node_at rs k).node n ≡ b → At i ≡ pick a (pick b (At k) Nothing) Nothing
+      go : (a : Bool) → Says (k < length rs) a → (b : Bool) → eqb (node_at rs k).node n ≡ b → Some i ≡ pick a (pick b (Some k) None) None
           → (i < length rs) × (find (λ r. eqb r.node n) rs ≡ some (node_at rs i))
       go true (holds h) true q z =
           let s : i ≡ k = cc in
@@ -88,7 +88,7 @@ module _ (n : ℕ) where
       go true (holds h) false q z = let x : ◌≡◌ {A = ℕ} 0 1 = cc in absurd (omega arith)
       go false (fails h) b q z = let x : ◌≡◌ {A = ℕ} 0 1 = cc in absurd (omega arith)
 
-  pub node-absent : (rs : List NodeRecord) → Asc node_before rs → Nothing ≡ found_node n rs → find (λ r. eqb r.node n) rs ≡ none
+  pub node-absent : (rs : List NodeRecord) → Asc node_before rs → None ≡ found_node n rs → find (λ r. eqb r.node n) rs ≡ none
   unfolding found_node pick
   node-absent rs a e =
       find-missing (node_under n) (λ r. eqb r.node n) (read_node []) not-under rs (asc-falls node_before (node_under n) (node-falls n) rs a)
@@ -97,7 +97,7 @@ module _ (n : ℕ) where
       k : ℕ
       k = lead (node_under n) rs
 
-      go : (a : Bool) → Says (k < length rs) a → (b : Bool) → eqb (node_at rs k).node n ≡ b → Nothing ≡ pick a (pick b (At k) Nothing) Nothing → k < length rs → eqb (node_at rs k).node n ≡ false
+      go : (a : Bool) → Says (k < length rs) a → (b : Bool) → eqb (node_at rs k).node n ≡ b → None ≡ pick a (pick b (Some k) None) None → k < length rs → eqb (node_at rs k).node n ≡ false
       go true s true q z h = let x : ◌≡◌ {A = ℕ} 0 1 = cc in absurd (omega arith)
       go true s false q z h = q
       go false (fails s) b q z h = absurd (s h)

@@ -4,7 +4,7 @@ use Rattle.std.specs.Prelude.{ℕ, Bool, List, eqb}
 use Rattle.std.proofs.Math.Option.{Option}
 use Rattle.words.specs.Rules.{both}
 use Rattle.words.specs.Tables.{find}
-use Rattle.types.specs.declared.Limit.{Limit}
+use Rattle.types.specs.Nodes.{Limit}
 use Rattle.types.specs.declared.NodeRecord.{NodeRecord}
 use Rattle.volume.specs.declared.ChunkRow.{ChunkRow}
 

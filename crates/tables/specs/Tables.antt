@@ -1,6 +1,6 @@
 -- Inner: what a search in a table finds, rows by their places, and where a volume's tables stand.
 -- Assumes nothing.
-use Rattle.std.specs.Prelude.{◌≡◌, ℕ, List, [], length, get_or, eqb, ltb}
+use Rattle.std.specs.Prelude.{◌≡◌, ℕ, List, [], length, get_or, eqb, ltb, Option, Some, None}
 use Rattle.words.specs.Rules.{pick}
 use Rattle.words.specs.Tables.{lead}
 use Rattle.types.specs.declared.NodeRecord.{NodeRecord}
@@ -11,8 +11,6 @@ use Rattle.volume.specs.Volume.{Volume, shown}
 use Rattle.volume.specs.Formed.{Formed}
 use Rattle.volume.specs.Layouts.{layout_of}
 use Rattle.volume.specs.Search.{node_under}
-use Rattle.tables.specs.declared.Found.{Found}
-use Rattle.tables.specs.declared.Found.TheVariants.{At, Nothing}
 
 abbrev pub layout_at : Volume → Layout
 layout_at v = layout_of v.names.node_room v.names.entry_room v.store.chunk_room
@@ -32,5 +30,9 @@ entry_at es i = get_or es i (read_entry [])
 abbrev pub chunk_at : List ChunkRow → ℕ → ChunkRow
 chunk_at cs i = get_or cs i (read_chunk [])
 
+-- the place of a row, if there is one
+abbrev pub Found : Type 0
+Found = Option ℕ
+
 unfoldable pub found_node : ℕ → List NodeRecord → Found
-found_node n rs = pick (ltb (lead (node_under n) rs) (length rs)) (pick (eqb (node_at rs (lead (node_under n) rs)).node n) (At (lead (node_under n) rs)) Nothing) Nothing
+found_node n rs = pick (ltb (lead (node_under n) rs) (length rs)) (pick (eqb (node_at rs (lead (node_under n) rs)).node n) (Some (lead (node_under n) rs)) None) None

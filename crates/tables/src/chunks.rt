@@ -1,33 +1,12 @@
-// The chunk table. Its rows ascend by (node, index).
+// The chunk table, changed. Its rows ascend by (node, index).
 ghost use Rattle.std.specs.Prelude.{◌≡◌, [], ◌++◌, ◌+◌, ◌≤◌, ◌<◌, length, take, drop, set, replicate};
-ghost use Rattle.words.specs.Tables.{lead, Asc};
 ghost use Rattle.volume.specs.Rows.{read_chunk};
 ghost use Rattle.volume.specs.Volume.{shown, laid, with_chunks, on_store};
-ghost use Rattle.volume.specs.Search.{chunk_under};
-ghost use Rattle.volume.specs.Sound.{chunk_before};
-ghost use Rattle.tables.specs.Tables.{Ready, chunk_at};
+ghost use Rattle.tables.specs.Tables.{Ready};
 
-use crate::header::chunks_used;
+use crate::reading::Tables;
+use crate::rows::take_out;
 use volume::{ChunkRow, Layout};
-
-// The chunk at a place.
-pub fn chunk_row(volume: &[u8], layout: Layout, place: usize) -> ChunkRow
-    requires { Ready volume.now layout × (place < length (shown volume.now).store.chunks) }
-    ensures { result ≡ chunk_at (shown volume.now).store.chunks place }
-{
-    let base = layout.chunks;
-    volume::read_chunk(volume, base + volume::CHUNK_ROW * place)
-}
-
-// The first row at or above (node, index).
-pub fn first_chunk(volume: &[u8], layout: Layout, node: u64, index: u64) -> usize
-    requires { Ready volume.now layout × Asc chunk_before (shown volume.now).store.chunks }
-    ensures { (result ≡ lead (chunk_under node index) (shown volume.now).store.chunks) × (result ≤ length (shown volume.now).store.chunks) }
-{
-    let used = chunks_used(volume, layout);
-    let base = layout.chunks;
-    volume::seek_chunk(volume, base, used, node, index)
-}
 
 // Writes another row over the one at a place.
 pub fn change_chunk(volume: &mut [u8], layout: Layout, place: usize, row: ChunkRow)
@@ -46,13 +25,17 @@ pub fn open_chunks(volume: &mut [u8], layout: Layout, place: usize, count: usize
     if count == 0 {
         return;
     }
-    let used = chunks_used(volume, layout);
+    let used = Tables {
+        bytes: volume,
+        layout,
+    }
+    .chunks_used();
     let base = layout.chunks;
     let at = base + volume::CHUNK_ROW * place;
     let new = volume::CHUNK_ROW * count;
     words::shift_up(volume, at, base + volume::CHUNK_ROW * used, new);
     words::clear(volume, at, new);
-    words::put64(volume, volume::CHUNKS_USED, (used + count) as u64);
+    words::put::<8>(volume, volume::CHUNKS_USED, (used + count) as u64);
 }
 
 // Takes rows out, from a place on, in one move.
@@ -63,16 +46,18 @@ pub fn remove_chunks(volume: &mut [u8], layout: Layout, place: usize, count: usi
     if count == 0 {
         return;
     }
-    let used = chunks_used(volume, layout);
+    let used = Tables {
+        bytes: volume,
+        layout,
+    }
+    .chunks_used();
     let base = layout.chunks;
-    let gone = volume::CHUNK_ROW * count;
-    let end = base + volume::CHUNK_ROW * used;
-    words::shift_down(
+    take_out(
         volume,
         base + volume::CHUNK_ROW * (place + count),
-        end,
-        gone,
+        base + volume::CHUNK_ROW * used,
+        volume::CHUNK_ROW * count,
+        volume::CHUNKS_USED,
+        (used - count) as u64,
     );
-    words::clear(volume, end - gone, gone);
-    words::put64(volume, volume::CHUNKS_USED, (used - count) as u64);
 }

@@ -1,39 +1,14 @@
-// The allocator of a volume that is laid out. Its words are a part of the volume that starts in its middle and ends where the node
+// The allocator of a volume that is laid out, changed. Its words are a part of the volume that starts in its middle and ends where the node
 // rows begin.
-ghost use Rattle.std.specs.Prelude.{◌≡◌, ◌+◌, ◌≤◌, ◌<◌};
+#![tactic(auto, using(crate::proofs::ReadyVolume::inside))]
+
+ghost use Rattle.std.specs.Prelude.{◌≡◌, ◌+◌, ◌<◌};
 ghost use Rattle.allocator.specs.Allocator.{allocate, release, set_chunk_size};
 ghost use Rattle.volume.specs.Volume.{shown, laid, with_allocator, on_store};
 ghost use Rattle.tables.specs.Tables.{Ready};
 
-use types::Answer;
+use types::Error;
 use volume::Layout;
-
-// The chunk size.
-pub fn chunk_size(volume: &[u8], layout: Layout) -> u64
-    requires { Ready volume.now layout }
-    ensures { (result ≡ (shown volume.now).store.allocator.chunk_size) × (0 < result) × (result ≤ 65536) }
-{
-    let end = layout.nodes;
-    allocator::chunk_size(&volume[volume::ALLOCATOR..end])
-}
-
-// How many pointers are free.
-pub fn free_count(volume: &[u8], layout: Layout) -> u64
-    requires { Ready volume.now layout }
-    ensures { (result ≡ (shown volume.now).store.allocator.free_count) × (result ≤ 4096) }
-{
-    let end = layout.nodes;
-    allocator::get_len(&volume[volume::ALLOCATOR..end])
-}
-
-// The number below which all pointers given out lie.
-pub fn max_ptr(volume: &[u8], layout: Layout) -> u64
-    requires { Ready volume.now layout }
-    ensures { result ≡ (shown volume.now).store.allocator.next_ptr }
-{
-    let end = layout.nodes;
-    allocator::max_ptr(&volume[volume::ALLOCATOR..end])
-}
 
 // Gives a pointer out: the one last freed, else a new one.
 pub fn allocate(volume: &mut [u8], layout: Layout) -> u64
@@ -54,7 +29,7 @@ pub fn free(volume: &mut [u8], layout: Layout, pointer: u64)
 }
 
 // Sets the chunk size; another one only if no pointer was ever given out.
-pub fn set_chunk_size(volume: &mut [u8], layout: Layout, span: u64) -> Answer
+pub fn set_chunk_size(volume: &mut [u8], layout: Layout, span: u64) -> Result<u64, Error>
     requires { Ready volume.old layout }
     ensures { (result ≡ (set_chunk_size span (shown volume.old).store.allocator).answer) × (volume.new ≡ laid (on_store (with_allocator (set_chunk_size span (shown volume.old).store.allocator).after) (shown volume.old))) }
 {

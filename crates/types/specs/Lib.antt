@@ -1,4 +1,5 @@
 pub mod Sizes
 pub mod Answers
 pub mod Nodes
+pub mod Kinds
 pub mod Outcomes

@@ -6,6 +6,8 @@ ghost use Rattle.rim.specs.Given.{GivesCount};
 ghost use Rattle.volume.specs.Sound.{Sound};
 ghost use Rattle.lentilraft.specs.Door.{read, write};
 
+use tables::Tables;
+
 // Reads a file's bytes; the count goes through a lent place, 0 for a refusal.
 #[unsafe(no_mangle)]
 pub extern "C" fn unchecked_read(
@@ -18,8 +20,11 @@ pub extern "C" fn unchecked_read(
     requires { Sound volume.now }
     ensures { GivesCount (read node offset volume.now buffer.old) result buffer.new count.new }
 {
-    let layout = volume::read_layout(volume);
-    let answer = files::read(volume, layout, node, offset, buffer);
+    let tables = Tables {
+        bytes: volume,
+        layout: volume::read_layout(volume),
+    };
+    let answer = files::read(&tables, node, offset, buffer);
     *count = types::value(answer);
     types::number(answer)
 }

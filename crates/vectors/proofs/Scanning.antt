@@ -1,75 +1,62 @@
--- Laws of the scan: a turn and an end of each loop, and how far a number reaches.
+-- Laws of the scan: where digits start and end, what they spell, and how far a number reaches.
 -- Assumes nothing.
-use mathlib.Core.Path.{◌≡◌, refl, sym, ap, ◌∙◌}
-use mathlib.Core.Bool.{Bool, true, false, cond}
-use mathlib.Core.List.{List, [], ◌∷◌, ◌++◌}
-use Prim.Native.Nat.{ℕ, zero, suc, ◌+◌, ◌-◌, ◌*◌, ◌%◌, ◌≤◌, ◌<◌, min}
-use native.Mathlib.Nat.{mod-eq_of_lt}
-use native.Mathlib.Numerals.{add-one}
-use native.Mathlib.Omega.{arith}
-use lib.Dec.{ltb}
+use Rattle.std.proofs.Common.{◌≡◌, refl, sym, ap, ◌∙◌, Bool, true, false, cond, not, List, [], ◌∷◌, ◌++◌, ℕ, zero, suc, ◌+◌, ◌-◌, ◌*◌, ◌≤◌, ◌<◌, length, take, drop, get_or, set, position, nat_lt, arith, add-one, Some, None, length-drop, nat_le}
+use Rattle.std.specs.Option.{unwrap_or}
+use Rattle.std.specs.List.{position_or_len, prefix_len}
+use Rattle.std.proofs.lemmas.List.Sums.{prefix_len-le-length}
+use Rattle.std.proofs.Math.ListN.{drop_of_length-le}
+use Rattle.std.proofs.Math.Seq.{drop-cons, drop-length, take-suc-set}
+use Rattle.std.proofs.lemmas.List.{drop-drop}
 use borrow.Author.Tests.{lt-ltb, le-ltb}
-use lib.ListN.{length, take, drop, get_or, set, length-drop, drop_of_length-le}
-use lib.Seq.{drop-cons, drop-length, take-suc-set, take_all}
-use Rattle.vectors.specs.Scan.{digit, from_digit, past_digits, spelled, held, number_at, next_at, numbers_at, after_at}
+use Rattle.vectors.specs.Scan.{digit, is_digit, from_digit, past_digits, spelled, held, number_at, next_at, numbers_at, after_at}
 
--- ---- one step of each definition
+-- ---- the first digit
 
-module _ (b : ℕ) (bs : List ℕ) where
-  from-here : digit b < 16 → from_digit (b ∷ bs) ≡ b ∷ bs
-  unfolding from_digit
-  from-here h = rw (lt-ltb (digit b) 16 h)
+or-length : (n m : ℕ) → n ≤ m → unwrap_or (cond (nat_lt n m) (Some n) None) m ≡ n
+or-length n m h = go (nat_lt n m) refl
+  where
+    go : (t : Bool) → nat_lt n m ≡ t → unwrap_or (cond t (Some n) None) m ≡ n
+    go true e = refl
+    go false e = grind arith
 
-  from_next : 16 ≤ digit b → from_digit (b ∷ bs) ≡ from_digit bs
-  unfolding from_digit
-  from_next h = rw (le-ltb (digit b) 16 h)
-
-  past_next : digit b < 16 → past_digits (b ∷ bs) ≡ past_digits bs
-  unfolding past_digits
-  past_next h = rw (lt-ltb (digit b) 16 h)
-
-  past-here : 16 ≤ digit b → past_digits (b ∷ bs) ≡ b ∷ bs
-  unfolding past_digits
-  past-here h = rw (le-ltb (digit b) 16 h)
-
-  spelled-next : (x : ℕ) → digit b < 16 → spelled x (b ∷ bs) ≡ spelled (x * 16 + digit b) bs
-  unfolding spelled
-  spelled-next x h = rw (lt-ltb (digit b) 16 h)
-
-  spelled-here : (x : ℕ) → 16 ≤ digit b → spelled x (b ∷ bs) ≡ x
-  unfolding spelled
-  spelled-here x h = rw (le-ltb (digit b) 16 h)
-
--- ---- a loop at index i of l, where d is the digit
-
-module _ (l : List ℕ) (i : ℕ) {d : ℕ} (e : d ≡ digit (get_or l i 0)) (h : i < length l) where
-  pub skip-turn : 16 ≤ d → {t : List ℕ} → from_digit (drop i l) ≡ t → from_digit (drop (i + 1) l) ≡ t
-  skip-turn k p =
-      let m : 16 ≤ digit (get_or l i 0) = omega arith in
-      rw (add-one i) (sym (from_next (get_or l i 0) (drop (suc i) l) m) ∙ ap from_digit (sym (drop-cons l i 0 h)) ∙ p)
-
-  pub skip_stop : d < 16 → {t : List ℕ} → from_digit (drop i l) ≡ t → drop i l ≡ t
-  skip_stop k p =
-      let m : digit (get_or l i 0) < 16 = omega arith in
-      drop-cons l i 0 h ∙ sym (from-here (get_or l i 0) (drop (suc i) l) m) ∙ ap from_digit (sym (drop-cons l i 0 h)) ∙ p
-
-  pub past-turn : d < 16 → {t : List ℕ} → past_digits (drop i l) ≡ t → past_digits (drop (i + 1) l) ≡ t
-  past-turn k p =
-      let m : digit (get_or l i 0) < 16 = omega arith in
-      rw (add-one i) (sym (past_next (get_or l i 0) (drop (suc i) l) m) ∙ ap past_digits (sym (drop-cons l i 0 h)) ∙ p)
-
-  pub past_stop : 16 ≤ d → {t : List ℕ} → past_digits (drop i l) ≡ t → drop i l ≡ t
-  past_stop k p =
-      let m : 16 ≤ digit (get_or l i 0) = omega arith in
-      drop-cons l i 0 h ∙ sym (past-here (get_or l i 0) (drop (suc i) l) m) ∙ ap past_digits (sym (drop-cons l i 0 h)) ∙ p
-
-pub skip-end : (l : List ℕ) (i : ℕ) → length l ≤ i → {t : List ℕ} → from_digit (drop i l) ≡ t → drop (length l) l ≡ t
+from-first : (l : List ℕ) → drop (position_or_len is_digit l) l ≡ from_digit l
 unfolding from_digit
-skip-end l i h p = drop-length l ∙ sym (ap from_digit (drop_of_length-le l h)) ∙ p
+from-first [] = refl
+from-first (b ∷ bs) = go (is_digit b) (from-first bs)
+  where
+    go : (t : Bool) → drop (position_or_len is_digit bs) bs ≡ from_digit bs → drop (cond (not t) (1 + position_or_len is_digit bs) 0) (b ∷ bs) ≡ cond t (b ∷ bs) (from_digit bs)
+    go true e = refl
+    go false e = let k : 1 + position_or_len is_digit bs ≡ suc (position_or_len is_digit bs) = omega arith in rw k e
 
-pub past_end : (l : List ℕ) (i : ℕ) → length l ≤ i → {t : List ℕ} → past_digits (drop i l) ≡ t → drop i l ≡ t
+pub from_position : (l : List ℕ) → drop (unwrap_or (position is_digit l) (length l)) l ≡ from_digit l
+from_position l = rw (or-length (position_or_len is_digit l) (length l) (prefix_len-le-length (λ x. not (is_digit x)) l)) (from-first l)
+
+-- ---- the digits in front, at index i of a text
+
+module _ (l : List ℕ) (i : ℕ) (h : i < length l) where
+  pub past-turn : digit (get_or l i 0) < 16 → past_digits (drop (i + 1) l) ≡ past_digits (drop i l)
+  unfolding past_digits
+  past-turn k = rw (drop-cons l i 0 h, lt-ltb (digit (get_or l i 0)) 16 k, add-one i)
+
+  pub past_stop : 16 ≤ digit (get_or l i 0) → past_digits (drop i l) ≡ drop i l
+  unfolding past_digits
+  past_stop k = rw (drop-cons l i 0 h, le-ltb (digit (get_or l i 0)) 16 k)
+
+  spelled-next : (x : ℕ) → digit (get_or l i 0) < 16 → spelled x (drop i l) ≡ spelled (x * 16 + digit (get_or l i 0)) (drop (i + 1) l)
+  unfolding spelled
+  spelled-next x k = rw (drop-cons l i 0 h, lt-ltb (digit (get_or l i 0)) 16 k, add-one i)
+
+  pub spelled-stop : (x : ℕ) → 16 ≤ digit (get_or l i 0) → spelled x (drop i l) ≡ x
+  unfolding spelled
+  spelled-stop x k = rw (drop-cons l i 0 h, le-ltb (digit (get_or l i 0)) 16 k)
+
+pub past_end : (l : List ℕ) → past_digits (drop (length l) l) ≡ []
 unfolding past_digits
-past_end l i h p = drop_of_length-le l h ∙ sym (ap past_digits (drop_of_length-le l h)) ∙ p
+past_end l = rw (drop-length l)
+
+pub spelled-end : (x : ℕ) (l : List ℕ) → spelled x (drop (length l) l) ≡ x
+unfolding spelled
+spelled-end x l = rw (drop-length l)
 
 -- ---- the number so far, modulo 2^64
 
@@ -79,36 +66,26 @@ held-turn x y d e = omega arith
 spelled-held : (x y : ℕ) (l : List ℕ) → held x ≡ held y → held (spelled x l) ≡ held (spelled y l)
 unfolding spelled
 spelled-held x y [] e = e
-spelled-held x y (b ∷ bs) e = go (ltb (digit b) 16) (spelled-held (x * 16 + digit b) (y * 16 + digit b) bs (held-turn x y (digit b) e))
+spelled-held x y (b ∷ bs) e = go (is_digit b) (spelled-held (x * 16 + digit b) (y * 16 + digit b) bs (held-turn x y (digit b) e))
   where
     go : (t : Bool) → held (spelled (x * 16 + digit b) bs) ≡ held (spelled (y * 16 + digit b) bs) → held (cond t (spelled (x * 16 + digit b) bs) x) ≡ held (cond t (spelled (y * 16 + digit b) bs) y)
     go true k = k
     go false k = e
 
-top-held : (x d : ℕ) → held (x % 1152921504606846976 * 16 + d) ≡ held (x * 16 + d)
-top-held x d = omega arith
+wrapped-held : (v d m w : ℕ) → m ≡ held (v * 16) → w ≡ held (m + d) → held w ≡ held (v * 16 + d)
+wrapped-held v d m w e f = omega arith
 
-module _ (l : List ℕ) (i v : ℕ) {d t : ℕ} (p : held (spelled v (drop i l)) ≡ t) where
-  pub value-turn : d ≡ digit (get_or l i 0) → i < length l → d < 16 → held (spelled (v % 1152921504606846976 * 16 + d) (drop (i + 1) l)) ≡ t
-  value-turn e h k =
-      let m : digit (get_or l i 0) < 16 = omega arith in
-      rw (add-one i, e) (spelled-held (v % 1152921504606846976 * 16 + digit (get_or l i 0)) (v * 16 + digit (get_or l i 0)) (drop (suc i) l) (top-held v (digit (get_or l i 0))) ∙ ap held (sym (spelled-next (get_or l i 0) (drop (suc i) l) v m) ∙ ap (spelled v) (sym (drop-cons l i 0 h))) ∙ p)
-
-  pub value-stop : d ≡ digit (get_or l i 0) → i < length l → 16 ≤ d → v < 18446744073709551616 → v ≡ t
-  value-stop e h k b =
-      let m : 16 ≤ digit (get_or l i 0) = omega arith in
-      sym (mod-eq_of_lt b) ∙ ap held (sym (spelled-here (get_or l i 0) (drop (suc i) l) v m) ∙ ap (spelled v) (sym (drop-cons l i 0 h))) ∙ p
-
-pub value-end : (l : List ℕ) (i v : ℕ) {t : ℕ} → held (spelled v (drop i l)) ≡ t → length l ≤ i → v < 18446744073709551616 → v ≡ t
-unfolding spelled
-value-end l i v p h b = sym (mod-eq_of_lt b) ∙ ap held (sym (ap (spelled v) (drop_of_length-le l h))) ∙ p
+-- the digit at index i read, with wrapping: m is what the product gives, w the sum
+pub value-turn : (l : List ℕ) (i v : ℕ) {d m w : ℕ} → i < length l → digit (get_or l i 0) < 16 → d ≡ digit (get_or l i 0) → m ≡ held (v * 16) → w ≡ held (m + d) → held (spelled w (drop (i + 1) l)) ≡ held (spelled v (drop i l))
+value-turn l i v {d} {m} {w} h k e f g =
+    spelled-held w (v * 16 + digit (get_or l i 0)) (drop (i + 1) l) (wrapped-held v d m w f g ∙ ap (λ (x : ℕ). held (v * 16 + x)) e) ∙ ap held (sym (spelled-next l i h v k))
 
 -- ---- how far a number reaches
 
 past-le : (l : List ℕ) → length (past_digits l) ≤ length l
 unfolding past_digits
 past-le [] = omega arith
-past-le (b ∷ bs) = go (ltb (digit b) 16) (past-le bs)
+past-le (b ∷ bs) = go (is_digit b) (past-le bs)
   where
     go : (t : Bool) → length (past_digits bs) ≤ length bs → length (cond t (past_digits bs) (b ∷ bs)) ≤ suc (length bs)
     go true k = omega arith
@@ -117,35 +94,58 @@ past-le (b ∷ bs) = go (ltb (digit b) 16) (past-le bs)
 from_le : (l : List ℕ) → length (from_digit l) ≤ length l
 unfolding from_digit
 from_le [] = omega arith
-from_le (b ∷ bs) = go (ltb (digit b) 16) (from_le bs)
+from_le (b ∷ bs) = go (is_digit b) (from_le bs)
   where
     go : (t : Bool) → length (from_digit bs) ≤ length bs → length (cond t (b ∷ bs) (from_digit bs)) ≤ suc (length bs)
     go true k = omega arith
     go false k = omega arith
 
 -- a text that is not empty loses a byte
-less : (l : List ℕ) → length (past_digits (from_digit l)) ≤ length l - 1
+pub less : (l : List ℕ) → length (past_digits (from_digit l)) ≤ length l - 1
 unfolding from_digit past_digits
 less [] = omega arith
-less (b ∷ bs) = go (ltb (digit b) 16) refl (past-le bs) (past-le (from_digit bs)) (from_le bs)
+less (b ∷ bs) = go (is_digit b) refl (past-le bs) (past-le (from_digit bs)) (from_le bs)
   where
-    go : (t : Bool) → ltb (digit b) 16 ≡ t → length (past_digits bs) ≤ length bs → length (past_digits (from_digit bs)) ≤ length (from_digit bs) → length (from_digit bs) ≤ length bs → length (past_digits (cond t (b ∷ bs) (from_digit bs))) ≤ suc (length bs) - 1
+    go : (t : Bool) → is_digit b ≡ t → length (past_digits bs) ≤ length bs → length (past_digits (from_digit bs)) ≤ length (from_digit bs) → length (from_digit bs) ≤ length bs → length (past_digits (cond t (b ∷ bs) (from_digit bs))) ≤ suc (length bs) - 1
     go true e j k m = rw e (omega arith)
     go false e j k m = omega arith
 
-pub gets-on : (l : List ℕ) (at : ℕ) → min (at + 1) (length l) ≤ next_at l at
-unfolding next_at
-gets-on l at = omega (arith, less (drop at l), length-drop at l)
+-- what is left is the end of the text
+past-first : (l : List ℕ) → past_digits l ≡ drop (prefix_len is_digit l) l
+unfolding past_digits
+past-first [] = refl
+past-first (b ∷ bs) = go (is_digit b) (past-first bs)
+  where
+    go : (t : Bool) → past_digits bs ≡ drop (prefix_len is_digit bs) bs → cond t (past_digits bs) (b ∷ bs) ≡ drop (cond t (1 + prefix_len is_digit bs) 0) (b ∷ bs)
+    go true e = let k : 1 + prefix_len is_digit bs ≡ suc (prefix_len is_digit bs) = omega arith in rw k e
+    go false e = refl
 
-pub next_of : (l : List ℕ) (at s r : ℕ) → r ≤ length l → drop s l ≡ from_digit (drop at l) → drop r l ≡ past_digits (drop s l) → r ≡ next_at l at
-unfolding next_at
-next_of l at s r h p q =
-    let e = ap length (q ∙ ap past_digits p) in
-    omega (arith, length-drop r l)
+end-of : (l s : List ℕ) (k : ℕ) → s ≡ drop k l → drop (length l - length s) l ≡ s
+end-of l s k e = go (nat_le k (length l)) refl
+  where
+    go : (t : Bool) → nat_le k (length l) ≡ t → drop (length l - length s) l ≡ s
+    go true h =
+        let g : k ≤ length l = grind arith in
+        let m : length l - length s ≡ k = omega (arith, ap length e, length-drop k l) in
+        rw m (sym e)
+    go false h =
+        let g : length l ≤ k = grind arith in
+        let m : length l - length s ≡ length l = omega (arith, ap length e, length-drop k l) in
+        rw m (drop-length l ∙ sym (drop_of_length-le l g) ∙ sym e)
 
-pub number_of : (l : List ℕ) (at s : ℕ) {v : ℕ} → drop s l ≡ from_digit (drop at l) → v ≡ held (spelled 0 (drop s l)) → v ≡ number_at l at
-unfolding number_at
-number_of l at s p q = q ∙ ap (λ (m : List ℕ). held (spelled 0 m)) p
+pub next-left : (l : List ℕ) (at : ℕ) → drop (next_at l at) l ≡ past_digits (from_digit (drop at l))
+unfolding next_at
+next-left l at =
+    let i = position_or_len is_digit (drop at l) in
+    let j = prefix_len is_digit (from_digit (drop at l)) in
+    let e : from_digit (drop at l) ≡ drop (at + i) l = sym (from-first (drop at l)) ∙ drop-drop i at l in
+    end-of l (past_digits (from_digit (drop at l))) (at + i + j) (past-first (from_digit (drop at l)) ∙ ap (drop j) e ∙ drop-drop j (at + i) l)
+
+-- past the last number
+pub number-past : (l : List ℕ) → length l ≡ 0 → number_at l 0 ≡ 0
+unfolding number_at from_digit spelled
+number-past [] h = refl
+number-past (b ∷ bs) h = absurd (omega arith)
 
 -- ---- several numbers
 
@@ -159,15 +159,20 @@ unfolding after_at
 after_more l at zero = refl
 after_more l at (suc n) = after_more l (next_at l at) n
 
-module _ (l : List ℕ) (at i : ℕ) {next : ℕ} (p : next ≡ after_at l at i) where
-  pub after_turn : {r : ℕ} → r ≡ next_at l next → r ≡ after_at l at (i + 1)
-  after_turn e = rw (add-one i) (e ∙ ap (next_at l) p ∙ sym (after_more l at i))
+-- a reader that has the text from an index on
+pub number_from : (l : List ℕ) (at : ℕ) → number_at (drop at l) 0 ≡ number_at l at
+unfolding number_at
+number_from l at = refl
 
-  pub numbers-turn : (out : List ℕ) {v : ℕ} → v ≡ number_at l next → i < length out → take i out ≡ numbers_at l at i → take (i + 1) (set out i v) ≡ numbers_at l at (i + 1)
+pub next_from : (l : List ℕ) (at : ℕ) → drop (next_at (drop at l) 0) (drop at l) ≡ drop (next_at l at) l
+next_from l at = next-left (drop at l) 0 ∙ sym (next-left l at)
+
+-- a turn of the loop that reads several numbers: t is what the reader has left, u what it has left behind the next number v
+module _ (l : List ℕ) (i : ℕ) {t : List ℕ} (p : t ≡ drop (after_at l 0 i) l) where
+  pub numbers-turn : (out : List ℕ) {v : ℕ} → v ≡ number_at t 0 → i < length out → take i out ≡ numbers_at l 0 i → take (i + 1) (set out i v) ≡ numbers_at l 0 (i + 1)
   numbers-turn out {v} e h q =
-      rw (add-one i) (take-suc-set out i v h ∙ rw (q, e, p) (sym (numbers_more l at i)))
+      let f : v ≡ number_at l (after_at l 0 i) = e ∙ ap (λ (m : List ℕ). number_at m 0) p ∙ number_from l (after_at l 0 i) in
+      rw (add-one i) (take-suc-set out i v h ∙ rw (q, f) (sym (numbers_more l 0 i)))
 
-pub numbers-end : (l : List ℕ) (at n i : ℕ) (out : List ℕ) → take i out ≡ numbers_at l at i → length out ≡ n → i ≡ n → out ≡ numbers_at l at n
-numbers-end l at n i out q h e =
-    let k : length out ≤ i = omega arith in
-    sym (take_all i out k) ∙ q ∙ ap (numbers_at l at) e
+  pub after-turn : {u : List ℕ} → u ≡ drop (next_at t 0) t → u ≡ drop (after_at l 0 (i + 1)) l
+  after-turn e = rw (add-one i) (e ∙ ap (λ (m : List ℕ). drop (next_at m 0) m) p ∙ next_from l (after_at l 0 i) ∙ sym (ap (λ (n : ℕ). drop n l) (after_more l 0 i)))

@@ -1,10 +1,13 @@
 -- Inner: text of numbers: lower-case hexadecimal digits, and between two numbers any other bytes.
 -- Assumes nothing.
-use Rattle.std.specs.Prelude.{ℕ, zero, suc, ◌+◌, ◌-◌, ◌*◌, ◌%◌, cond, List, [], ◌∷◌, ltb, length, drop}
+use Rattle.std.specs.Prelude.{ℕ, zero, suc, ◌+◌, ◌-◌, ◌*◌, ◌%◌, Bool, cond, List, [], ◌∷◌, ltb, length, drop}
 
 -- the value of a digit, and 16 for a byte that is none
 unfoldable pub digit : ℕ → ℕ
 digit b = cond (ltb b 48) 16 (cond (ltb b 58) (b - 48) (cond (ltb b 97) 16 (cond (ltb b 103) (b - 87) 16)))
+
+abbrev pub is_digit : ℕ → Bool
+is_digit b = ltb (digit b) 16
 
 -- the bytes from the first digit on
 unfoldable pub from_digit : List ℕ → List ℕ

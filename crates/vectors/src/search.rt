@@ -2,7 +2,7 @@
 ghost use Rattle.std.specs.Prelude.{◌≡◌};
 ghost use Rattle.types.specs.Answers.{search_number, search_case, search_index, search_node, search_looked};
 
-use types::Search;
+use types::{Error, Search};
 
 // What came of a search.
 const ABSENT: u64 = 0;
@@ -21,25 +21,36 @@ pub struct SearchNumbers {
     pub looked: u64,
 }
 
-pub fn search_numbers(search: Search) -> SearchNumbers
+// A search that is absent, after no entry.
+const NOTHING: SearchNumbers = SearchNumbers {
+    number: 0,
+    case: ABSENT,
+    index: 0,
+    node: 0,
+    looked: 0,
+};
+
+pub fn search_numbers(search: Result<Search, Error>) -> SearchNumbers
     ensures { (result.number ≡ search_number search) × (result.case ≡ search_case search) × (result.index ≡ search_index search) × (result.node ≡ search_node search) × (result.looked ≡ search_looked search) }
 {
     match search {
-        Search::Found(index, node, looked) => numbers(0, FOUND, index as u64, node, looked),
-        Search::Absent(looked) => numbers(0, ABSENT, 0, 0, looked),
-        Search::Stopped(index, looked) => numbers(0, STOPPED, index as u64, 0, looked),
-        Search::Refused(error) => numbers(types::error_number(error) as u64, ABSENT, 0, 0, 0),
-    }
-}
-
-fn numbers(number: u64, case: u64, index: u64, node: u64, looked: u64) -> SearchNumbers
-    ensures { (result.number ≡ number) × (result.case ≡ case) × (result.index ≡ index) × (result.node ≡ node) × (result.looked ≡ looked) }
-{
-    SearchNumbers {
-        number: number,
-        case: case,
-        index: index,
-        node: node,
-        looked: looked,
+        Ok(Search::Found(index, node, looked)) => SearchNumbers {
+            case: FOUND,
+            index: u64::from(index),
+            node,
+            looked,
+            ..NOTHING
+        },
+        Ok(Search::Absent(looked)) => SearchNumbers { looked, ..NOTHING },
+        Ok(Search::Stopped(index, looked)) => SearchNumbers {
+            case: STOPPED,
+            index: u64::from(index),
+            looked,
+            ..NOTHING
+        },
+        Err(error) => SearchNumbers {
+            number: u64::from(u32::from(error)),
+            ..NOTHING
+        },
     }
 }

@@ -12,10 +12,8 @@ pub fn fill(buffer: &mut [u8], seed: u64)
     ensures { buffer.new ≡ seeded (seed % 251) (length buffer.old) }
 {
     let mut value = seed % DIFFERENT;
-    let mut i = 0;
-    while i < buffer.len() {
-        buffer[i] = (value + 1) as u8;
+    for byte in buffer.iter_mut() {
+        *byte = (value + 1) as u8;
         value = (value + STEP) % DIFFERENT;
-        i += 1;
     }
 }

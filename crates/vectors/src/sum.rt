@@ -14,11 +14,9 @@ pub fn checksum(v: &[u8]) -> u64
 {
     let mut low: u64 = 1;
     let mut high: u64 = 0;
-    let mut i = 0;
-    while i < v.len() {
-        low = (low + v[i] as u64) % PRIME;
+    for byte in v {
+        low = (low + u64::from(*byte)) % PRIME;
         high = (high + low) % PRIME;
-        i += 1;
     }
     high * HALF + low
 }

@@ -1,5 +1,6 @@
 -- What the writes of a new volume leave.
 -- Assumes nothing.
+use Rattle.std.specs.Prelude.{Ok}
 use mathlib.Core.Path.{◌≡◌, refl, sym, ap, ◌∙◌}
 use mathlib.Core.Bool.{true, false}
 use mathlib.Core.List.{List, [], ◌∷◌, ◌++◌, append_assoc, append-nil}
@@ -13,7 +14,6 @@ use Rattle.words.proofs.Numbers.{length-spell}
 use Rattle.words.proofs.Tables.{lay_all-append, length-lay_all, words-zero, area-nil, cleared}
 use Rattle.words.proofs.Rules.{pick_true, pick-false}
 use Rattle.types.specs.Outcomes.{outcome, refused}
-use Rattle.types.specs.declared.Answer.TheVariants.{Done}
 use Rattle.types.specs.declared.Error.TheVariants.{InvalidArgument}
 use Rattle.types.specs.declared.NodeRecord.{NodeRecord}
 use Rattle.allocator.specs.Sizes.{accepted_size}
@@ -79,6 +79,6 @@ module _ (n e c s : ℕ) (l : List ℕ) where
   unfolding new_volume
   new-missized h k = pick_true _ _ _ _ h (pick-false _ _ _ _ k refl)
 
-  pub new-done : {m : List ℕ} → placed n e c (length l) ≡ true → accepted_size s ≡ true → m ≡ fresh_laid n e c s (length l) → outcome (Done 0) m ≡ new_volume n e c s l
+  pub new-done : {m : List ℕ} → placed n e c (length l) ≡ true → accepted_size s ≡ true → m ≡ fresh_laid n e c s (length l) → outcome (Ok 0) m ≡ new_volume n e c s l
   unfolding new_volume
   new-done h k q = pick_true _ _ _ _ h (pick_true _ _ _ _ k (rw q))

@@ -1,21 +1,17 @@
 -- Laws of the geometry: what the tests mean, and the place that they give.
 -- Assumes nothing.
-use mathlib.Core.Path.{◌≡◌, refl, sym, ap, ◌∙◌}
+use Rattle.std.specs.Prelude.{Option, Some, None}
+use mathlib.Core.Path.{◌≡◌, refl, ap}
 use mathlib.Core.Bool.{Bool, true, false}
 use Prim.Native.Nat.{ℕ, ◌+◌, ◌≤◌}
-use native.Mathlib.Omega.{arith}
-use denote.Enum.Declared.{tag_of}
 use Rattle.words.specs.Rules.{Says}
 use Rattle.words.proofs.Rules.{says-itself, says-opposite, says_both, says-leb, says_map, says-true, false-says, call-yes, pick_true, pick-false}
 use Rattle.types.specs.Sizes.{most_rows, least_area}
 use Rattle.volume.specs.declared.Layout.{Layout}
-use Rattle.volume.specs.declared.Place.{Place}
-use Rattle.volume.specs.declared.Place.TheVariants.{At, Nowhere}
 use Rattle.volume.specs.Volume.{at_bytes}
 use Rattle.volume.specs.Framed.{Placed}
 use Rattle.volume.specs.Geometry.{roomy, placed}
 use Rattle.volume.specs.Layouts.{place_if}
-use Rattle.volume.specs.contracts.Place.{the_type}
 
 pub says-roomy : (n : ℕ) → Says ((1 ≤ n) × (n ≤ most_rows)) (roomy n)
 unfolding roomy
@@ -33,24 +29,24 @@ says-placed n e c size =
 -- ---- a place that stands for a test
 
 module _ (b : Bool) (y : Layout) where
-  pub nowhere : b ≡ false → Nowhere ≡ place_if b y
+  pub nowhere : b ≡ false → None ≡ place_if b y
   unfolding place_if
   nowhere e = pick-false _ _ _ _ e refl
 
-  pub somewhere : {z : Layout} → b ≡ true → z ≡ y → At z ≡ place_if b y
+  pub somewhere : {z : Layout} → b ≡ true → z ≡ y → Some z ≡ place_if b y
   unfolding place_if
-  somewhere e h = pick_true _ _ _ _ e (ap At h)
+  somewhere e h = pick_true _ _ _ _ e (ap Some h)
 
   -- what a place that was given says of the test, and of the layout
-  module _ {r : Place} (h : r ≡ place_if b y) where
-    pub place-fails : tag_of the_type r ≡ 1 → b ≡ false
-    place-fails t = false-says (says-itself b) (λ q. let x : tag_of the_type r ≡ 0 = ap (tag_of the_type) (h ∙ sym (somewhere q refl)) in omega arith)
+  module _ {r : Option Layout} (h : r ≡ place_if b y) where
+    pub place-fails : r ≡ None → b ≡ false
+    place-fails t = false-says (says-itself b) (λ q. let s : Some y ≡ place_if b y = somewhere q refl in cc)
 
-    pub place-passes : tag_of the_type r ≡ 0 → b ≡ true
-    place-passes t = call-yes refl (false-says (says-opposite b) (λ no. let x : tag_of the_type r ≡ 1 = ap (tag_of the_type) (h ∙ sym (nowhere no)) in omega arith))
+    pub place-passes : {z : Layout} → r ≡ Some z → b ≡ true
+    place-passes t = call-yes refl (false-says (says-opposite b) (λ no. let n : None ≡ place_if b y = nowhere no in cc))
 
-    pub place-layout : {z : Layout} → r ≡ At z → z ≡ y
-    place-layout k = let a = somewhere (place-passes (ap (tag_of the_type) k)) refl in cc
+    pub place-layout : {z : Layout} → r ≡ Some z → z ≡ y
+    place-layout k = let a : Some y ≡ place_if b y = somewhere (place-passes k) refl in cc
 
-  pub is_at : {z : Layout} → At z ≡ place_if b y → (b ≡ true) × (z ≡ y)
+  pub is_at : {z : Layout} → Some z ≡ place_if b y → (b ≡ true) × (z ≡ y)
   is_at h = (place-passes h refl, place-layout h refl)

@@ -1,5 +1,6 @@
 -- Rows and their bytes: sizes, that what is laid out is read back, and that what is read is laid out again.
 -- Assumes nothing.
+use Rattle.std.specs.Prelude.{Some, None}
 use mathlib.Core.Path.{◌≡◌, refl, sym, ap, ◌∙◌}
 use mathlib.Core.Logic.{◌⊎◌, inl, inr}
 use mathlib.Core.List.{List, [], ◌∷◌, append-nil}
@@ -15,13 +16,14 @@ use Rattle.words.proofs.Numbers.{spell-num, length-spell, num-part, num-below}
 use Rattle.words.proofs.Tables.{num-words, part-joined, length-padded, padded-short, part-padded}
 use Rattle.types.specs.Sizes.{most_size, name_room}
 use Rattle.types.specs.Nodes.{limit_word}
-use Rattle.volume.specs.Kinds.{kind_of, kind_byte, limit_of, limit_flag}
+use Rattle.types.specs.Kinds.{kind_of, kind_byte}
+use Rattle.volume.specs.Kinds.{limit_of, limit_flag}
 use Rattle.types.specs.declared.FileType.{FileType}
 use Rattle.types.specs.declared.FileType.TheVariants.{Directory, RegularFile, SymbolicLink}
-use Rattle.types.specs.declared.Limit.{Limit}
-use Rattle.types.specs.declared.Limit.TheVariants.{Unlimited, AtMost}
+use Rattle.types.specs.Nodes.{Limit}
 use Rattle.types.specs.declared.NodeRecord.{NodeRecord}
-use Rattle.volume.proofs.KindBytes.{is_known_lem, kind-of-byte, limit-of-bytes, bytes-of-limit}
+use Rattle.types.proofs.KindBytes.{is_known_lem, kind-of-byte}
+use Rattle.volume.proofs.KindBytes.{limit-of-bytes, bytes-of-limit}
 use Rattle.volume.specs.declared.ChunkRow.{ChunkRow}
 use Rattle.volume.specs.Rows.{Entry, kind_or, lay_node, read_node, lay_entry, read_entry, lay_chunk, read_chunk, chunk_row, entry_row, node_row}
 use Rattle.volume.specs.Framed.{NodeFormed, EntryFormed, NodeFits, EntryFits, ChunkFits}
@@ -42,8 +44,8 @@ kind-small RegularFile = omega arith
 kind-small SymbolicLink = omega arith
 
 flag_small : (m : Limit) → limit_flag m ≤ 1
-flag_small Unlimited = omega arith
-flag_small (AtMost most) = omega arith
+flag_small None = omega arith
+flag_small (Some most) = omega arith
 
 -- the pieces of a node's row
 module _ (r : NodeRecord) (f : NodeFits r) where
@@ -189,8 +191,8 @@ module _ (l : List ℕ) (at : ℕ) where
       record { kind = rw k (kind-small r.kind); limit = rw (g, w) (either r.limit f.limit); spare = sym (part-part l at 40 10 6 (omega arith)) ∙ rw e (node-pieces r f).3 }
     where
       either : (m : Limit) → limit_word m ≤ most_size → ((limit_flag m ≡ 0) × (limit_word m ≡ 0)) ⊎ ((limit_flag m ≡ 1) × (limit_word m ≤ most_size))
-      either Unlimited h = inl (refl, refl)
-      either (AtMost most) h = inr (refl, h)
+      either None h = inl (refl, refl)
+      either (Some most) h = inr (refl, h)
 
   -- an entry's row
   entry-formed : (e : Entry) → EntryFits e → part l at 280 ≡ lay_entry e → EntryFormed l at

@@ -1,6 +1,8 @@
 -- A row field by field: read, written piece by piece, and tested against a key, as the functions of rows do it.
 -- Assumes nothing.
-use mathlib.Core.Path.{◌≡◌, refl}
+use Rattle.std.specs.Prelude.{Result, Some, None, ok_or, is_err, not}
+use Rattle.std.specs.Result.{result_unwrap_or}
+use mathlib.Core.Path.{◌≡◌, refl, sym, ap, ◌∙◌}
 use mathlib.Core.Bool.{Bool}
 use mathlib.Core.List.{List, [], ◌∷◌, append-nil}
 use Prim.Native.Nat.{ℕ, ◌+◌, ◌-◌, ◌≤◌}
@@ -14,10 +16,13 @@ use Rattle.words.proofs.Parts.{length-zeros, length_over, two}
 use Rattle.words.proofs.Numbers.{length-spell, num-part}
 use Rattle.words.proofs.Tables.{length-padded, padded-short}
 use Rattle.types.specs.Nodes.{limit_word}
-use Rattle.volume.specs.Kinds.{kind_of, kind_byte, limit_of, limit_flag}
+use Rattle.types.specs.Kinds.{Kind, kind_of, is_known, kind_byte, MeansKind}
+use Rattle.volume.specs.Kinds.{limit_of, limit_flag}
 use Rattle.types.specs.declared.FileType.{FileType}
-use Rattle.volume.specs.declared.kinds.Kind.{Kind}
-use Rattle.types.specs.declared.Limit.{Limit}
+use Rattle.types.specs.declared.FileType.TheVariants.{Directory}
+use Rattle.types.specs.declared.Error.{Error}
+use Rattle.types.specs.declared.Error.TheVariants.{InvalidArgument}
+use Rattle.types.specs.Nodes.{Limit}
 use Rattle.types.specs.declared.NodeRecord.{NodeRecord}
 use Rattle.volume.specs.declared.ChunkRow.{ChunkRow}
 use Rattle.volume.specs.Rows.{kind_or, lay_node, read_node, lay_entry, read_entry, lay_chunk, read_chunk, chunk_row, entry_row, node_row}
@@ -26,17 +31,30 @@ use Rattle.volume.proofs.RowBytes.{node_row_lem, entry_row_lem, node_at_lem, ent
 
 -- ---- a row read field by field: the fields, as they stand in the bytes l around the row
 
+-- a byte that means no kind is taken for a directory
+known-or : (k : Kind) → result_unwrap_or (ok_or k InvalidArgument) Directory ≡ kind_or k
+known-or (Some kind) = refl
+known-or None = refl
+
+-- the test of a kind byte that was read, by whether its conversion failed
+kind-told : (k : Kind) {r : Result FileType Error} {b : Bool} → r ≡ ok_or k InvalidArgument → b ≡ is_err r → is_known k ≡ not b
+kind-told (Some kind) m e = sym (ap not (e ∙ ap is_err m))
+kind-told None m e = sym (ap not (e ∙ ap is_err m))
+
+pub kind-read : {byte n : ℕ} {r : Result FileType Error} {b t : Bool} → byte ≡ n → MeansKind byte r → b ≡ is_err r → b ≡ t → is_known (kind_of n) ≡ not t
+kind-read {byte = byte} read m e is = rw (← read, ← is) (kind-told (kind_of byte) m e)
+
 module _ (l : List ℕ) (at : ℕ) where
   -- the numbers of an entry
   pub entry-numbers : ((read_entry (part l at entry_row)).parent ≡ word l at) × ((read_entry (part l at entry_row)).node ≡ word l (at + 8)) × ((read_entry (part l at entry_row)).index ≡ num 4 l (at + 16))
   unfolding read_entry
   entry-numbers = (rw (num-part 8 l at 280 0 (omega arith), add-zero), num-part 8 l at 280 8 (omega arith), num-part 4 l at 280 16 (omega arith))
 
-  pub node-read : {node byte flag most links size : ℕ} {k : Kind} {kind : FileType} {limit : Limit}
-      → byte ≡ num 1 l (at + 8) → flag ≡ num 1 l (at + 9) → k ≡ kind_of byte → kind ≡ kind_or k → most ≡ word l (at + 32) → limit ≡ limit_of flag most
+  pub node-read : {node byte flag most links size : ℕ} {k : Result FileType Error} {kind : FileType} {limit : Limit}
+      → byte ≡ num 1 l (at + 8) → flag ≡ num 1 l (at + 9) → MeansKind byte k → kind ≡ result_unwrap_or k Directory → most ≡ word l (at + 32) → limit ≡ limit_of flag most
       → node ≡ word l at → links ≡ word l (at + 16) → size ≡ word l (at + 24)
       → ◌≡◌ {A = NodeRecord} (record { node = node; kind = kind; limit = limit; links = links; size = size }) (read_node (part l at node_row))
-  node-read b f k j w m n a s = rw (node_at_lem l at, m, j, k, b, f, w, n, a, s)
+  node-read {byte = byte} b f k j w m n a s = rw (node_at_lem l at, m, j ∙ ap (λ r. result_unwrap_or r Directory) k ∙ known-or (kind_of byte), b, f, w, n, a, s)
 
   pub chunk_read : {node index pointer : ℕ} → node ≡ word l at → index ≡ word l (at + 8) → pointer ≡ word l (at + 16)
       → ◌≡◌ {A = ChunkRow} (record { node = node; index = index; pointer = pointer }) (read_chunk (part l at chunk_row))
@@ -100,8 +118,8 @@ chunk-written l at row e = rw (three-words row.node row.index row.pointer) at e
 -- ---- whether a row stands before a key
 
 module _ (l : List ℕ) (at : ℕ) where
-  pub node-is-under : (n : ℕ) {x : ℕ} {r : Bool} → x ≡ word l at → ltb x n ≡ r → node_under n (read_node (part l at node_row)) ≡ r
-  node-is-under n e h = rw (node_at_lem l at, ← e) h
+  pub node-is-under : (n : ℕ) {r : Bool} → r ≡ ltb (word l at) n → r ≡ node_under n (read_node (part l at node_row))
+  node-is-under n h = rw (node_at_lem l at) h
 
   pub chunk-is-under : (n i : ℕ) {x y : ℕ} {r : Bool} → x ≡ word l at → y ≡ word l (at + 8) → r ≡ pair_before x y n i → r ≡ chunk_under n i (read_chunk (part l at chunk_row))
   chunk-is-under n i p q e = rw (chunk-at l at, e, p, q)

@@ -16,7 +16,7 @@ use Rattle.types.specs.Sizes.{most_size, most_name, name_room}
 use Rattle.volume.specs.Rows.{entry_row, node_row}
 use Rattle.volume.specs.Framed.{NodeFormed, EntryFormed}
 use Rattle.volume.specs.RowTests.{limit_formed, node_formed, entry_formed}
-use Rattle.volume.proofs.KindBytes.{says-known}
+use Rattle.types.proofs.KindBytes.{says-known}
 
 pub says-limit : (flag n : ℕ) → Says (((flag ≡ 0) × (n ≡ 0)) ⊎ ((flag ≡ 1) × (n ≤ most_size))) (limit_formed flag n)
 unfolding limit_formed pick

@@ -1,12 +1,11 @@
 -- Believed: new volume: all zero but the header, the marker, the chunk size, and node 0, a directory with links 1; next node 1.
 -- Assumes nothing.
-use Rattle.std.specs.Prelude.{ℕ, ◌-◌, List, [], ◌∷◌, length}
+use Rattle.std.specs.Prelude.{ℕ, ◌-◌, List, [], ◌∷◌, length, None}
 use Rattle.words.specs.Bytes.{zeros}
 use Rattle.words.specs.Rules.{pick}
 use Rattle.types.specs.Outcomes.{Outcome, refused, done}
 use Rattle.types.specs.declared.Error.TheVariants.{InvalidArgument}
 use Rattle.types.specs.declared.FileType.TheVariants.{Directory}
-use Rattle.types.specs.declared.Limit.TheVariants.{Unlimited}
 use Rattle.types.specs.declared.NodeRecord.{NodeRecord}
 use Rattle.allocator.specs.Sizes.{accepted_size}
 use Rattle.allocator.specs.Allocator.{Allocator, marker}
@@ -17,7 +16,7 @@ abbrev pub fresh_allocator : ℕ → ℕ → Allocator
 fresh_allocator c s = record { mark = marker; chunk_size = s; free_count = 0; next_ptr = 0; unread = zeros 12; words = zeros c }
 
 abbrev pub root : NodeRecord
-root = record { node = 0; kind = Directory; limit = Unlimited; links = 1; size = 0 }
+root = record { node = 0; kind = Directory; limit = None; links = 1; size = 0 }
 
 unfoldable pub fresh : ℕ → ℕ → ℕ → ℕ → ℕ → Volume
 fresh n e c s area = record {

@@ -5,7 +5,7 @@ use Rattle.words.specs.Bytes.{word, num, part}
 use Rattle.words.specs.Rules.{pick, both}
 use Rattle.words.specs.Tests.{all_zero}
 use Rattle.types.specs.Sizes.{most_size, most_name, name_room}
-use Rattle.volume.specs.Kinds.{kind_of, is_known}
+use Rattle.types.specs.Kinds.{kind_of, is_known}
 
 -- a limit of at most 2^40 under flag 1, none under flag 0
 unfoldable pub limit_formed : ℕ → ℕ → Bool

@@ -1,6 +1,6 @@
 -- Believed: the rows of the three tables: read off their bytes, and laid out again.
 -- Assumes nothing.
-use Rattle.std.specs.Prelude.{ℕ, List, [], ◌∷◌, length}
+use Rattle.std.specs.Prelude.{ℕ, List, [], ◌∷◌, length, Some, None}
 use Rattle.words.specs.Bytes.{part, spell, num, word, zeros, padded}
 use Rattle.words.specs.Tables.{joined}
 use Rattle.types.specs.Sizes.{name_room}
@@ -9,9 +9,8 @@ use Rattle.types.specs.declared.FileType.{FileType}
 use Rattle.types.specs.declared.FileType.TheVariants.{Directory}
 use Rattle.types.specs.declared.NodeRecord.{NodeRecord}
 use Rattle.volume.specs.declared.ChunkRow.{ChunkRow}
-use Rattle.volume.specs.declared.kinds.Kind.{Kind}
-use Rattle.volume.specs.declared.kinds.Kind.TheVariants.{Known, Unknown}
-use Rattle.volume.specs.Kinds.{kind_of, kind_byte, limit_of, limit_flag}
+use Rattle.types.specs.Kinds.{Kind, kind_of, kind_byte}
+use Rattle.volume.specs.Kinds.{limit_of, limit_flag}
 
 -- bytes of a row of each table
 abbrev pub node_row : ℕ
@@ -41,8 +40,8 @@ lay_node r =
 
 -- a byte that means no kind is taken for a directory; the frame rules it out
 abbrev pub kind_or : Kind → FileType
-kind_or (Known k) = k
-kind_or Unknown = Directory
+kind_or (Some k) = k
+kind_or None = Directory
 
 unfoldable pub read_node : List ℕ → NodeRecord
 read_node b = record { node = word b 0; kind = kind_or (kind_of (num 1 b 8)); limit = limit_of (num 1 b 9) (word b 32); links = word b 16; size = word b 24 }

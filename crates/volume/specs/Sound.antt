@@ -1,12 +1,11 @@
 -- Believed: sound, in the scope's words and order: the frame, and what the tables say of each other.
 -- Assumes nothing.
-use Rattle.std.specs.Prelude.{◌≡◌, true, ℕ, ◌+◌, ◌-◌, ◌*◌, ◌/◌, ◌%◌, ◌≤◌, ◌<◌, List, map, length, get_or, eqb}
+use Rattle.std.specs.Prelude.{◌≡◌, true, ℕ, ◌+◌, ◌-◌, ◌*◌, ◌/◌, ◌%◌, ◌≤◌, ◌<◌, List, map, length, get_or, eqb, None}
 use Rattle.std.proofs.Math.Option.{Option, none, some}
 use Rattle.words.specs.Rules.{bit, times, count}
 use Rattle.words.specs.Tables.{Each, Asc, find}
 use Rattle.types.specs.Nodes.{file_limit}
 use Rattle.types.specs.declared.FileType.TheVariants.{Directory}
-use Rattle.types.specs.declared.Limit.TheVariants.{Unlimited}
 use Rattle.types.specs.declared.NodeRecord.{NodeRecord}
 use Rattle.paths.specs.Path.{name_allowed}
 use Rattle.allocator.specs.Allocator.{free}
@@ -71,7 +70,7 @@ Owned s bytes c (some r) = ChunkOwned s bytes c r
 pub record NodeGood (es : List Entry) (r : NodeRecord) : Type 0 where
   -- a directory is named by at most one entry, has no limit, and a size equal to its number of entries, which is 0 if its links are 0
   pub named : r.kind ≡ Directory → naming r.node es ≤ 1
-  pub unlimited : r.kind ≡ Directory → r.limit ≡ Unlimited
+  pub unlimited : r.kind ≡ Directory → r.limit ≡ None
   pub entries : r.kind ≡ Directory → r.size ≡ entries_of r.node es
   pub unlinked : r.kind ≡ Directory → r.links ≡ 0 → r.size ≡ 0
   -- links equal the entries naming the node; node 0 has 1

@@ -1,9 +1,8 @@
 -- Believed: what a call makes of a volume: its answer, and the volume behind it. And one row of the node table changed.
 -- Assumes nothing.
-use Rattle.std.specs.Prelude.{ℕ, List, map, eqb}
+use Rattle.std.specs.Prelude.{ℕ, List, map, eqb, Ok, Err}
 use Rattle.words.specs.Rules.{pick}
-use Rattle.types.specs.declared.Answer.{Answer}
-use Rattle.types.specs.declared.Answer.TheVariants.{Done, Refused}
+use Rattle.types.specs.Answers.{Answer}
 use Rattle.types.specs.declared.Error.{Error}
 use Rattle.types.specs.declared.NodeRecord.{NodeRecord}
 use Rattle.volume.specs.Volume.{Names, Volume, with_nodes}
@@ -14,10 +13,10 @@ pub record Step : Type 0 where
 
 -- a refusal leaves the volume as it was
 abbrev pub stays : Error → Volume → Step
-stays e v = record { answer = Refused e; after = v }
+stays e v = record { answer = Err e; after = v }
 
 abbrev pub becomes : ℕ → Volume → Step
-becomes n v = record { answer = Done n; after = v }
+becomes n v = record { answer = Ok n; after = v }
 
 -- the row of node n changed
 unfoldable pub changed : ℕ → (NodeRecord → NodeRecord) → List NodeRecord → List NodeRecord
@@ -34,10 +33,10 @@ pub record NamesStep : Type 0 where
 
 -- a refusal
 abbrev pub remain : Error → Names → NamesStep
-remain e a = record { answer = Refused e; after = a }
+remain e a = record { answer = Err e; after = a }
 
 abbrev pub turn : ℕ → Names → NamesStep
-turn n a = record { answer = Done n; after = a }
+turn n a = record { answer = Ok n; after = a }
 
 -- lifted to a volume: its chunks stay
 abbrev pub name_step : (Names → NamesStep) → Volume → Step

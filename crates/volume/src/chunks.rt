@@ -23,9 +23,9 @@ pub fn read_chunk(volume: &[u8], at: usize) -> ChunkRow
     ensures { result ≡ read_chunk (part volume.now at chunk_row) }
 {
     ChunkRow {
-        node: words::get64(volume, at),
-        index: words::get64(volume, at + INDEX),
-        pointer: words::get64(volume, at + POINTER),
+        node: words::get::<8>(volume, at),
+        index: words::get::<8>(volume, at + INDEX),
+        pointer: words::get::<8>(volume, at + POINTER),
     }
 }
 
@@ -44,8 +44,8 @@ fn chunk_under(volume: &[u8], at: usize, node: u64, index: u64) -> bool
     ensures { result ≡ chunk_under node index (read_chunk (part volume.now at chunk_row)) }
 {
     pair_before(
-        words::get64(volume, at),
-        words::get64(volume, at + INDEX),
+        words::get::<8>(volume, at),
+        words::get::<8>(volume, at + INDEX),
         node,
         index,
     )
@@ -56,17 +56,10 @@ pub fn seek_chunk(volume: &[u8], base: usize, used: usize, node: u64, index: u64
     requires { (base + chunk_row * used ≤ length volume.now) × Falls (chunk_under node index) (table read_chunk chunk_row volume.now base used) }
     ensures { (result ≡ lead (chunk_under node index) (table read_chunk chunk_row volume.now base used)) × (result ≤ used) }
 {
-    let mut low = 0;
-    let mut high = used;
-    while low < high {
-        let middle = low + (high - low) / 2;
-        if chunk_under(volume, base + CHUNK_ROW * middle, node, index) {
-            low = middle + 1;
-        } else {
-            high = middle;
-        }
-    }
-    low
+    words::seek(
+        used,
+        |i| chunk_under(volume, base + CHUNK_ROW * i, node, index),
+    )
 }
 
 // A file's size divided by the chunk size, rounded up: its chunks have lower indexes.

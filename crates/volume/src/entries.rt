@@ -25,7 +25,7 @@ pub fn entry_parent(volume: &[u8], at: usize) -> u64
     requires { at + entry_row ≤ length volume.now }
     ensures { result ≡ (read_entry (part volume.now at entry_row)).parent }
 {
-    words::get64(volume, at)
+    words::get::<8>(volume, at)
 }
 
 // The node in the row that starts at index at.
@@ -33,7 +33,7 @@ pub fn entry_node(volume: &[u8], at: usize) -> u64
     requires { at + entry_row ≤ length volume.now }
     ensures { result ≡ (read_entry (part volume.now at entry_row)).node }
 {
-    words::get64(volume, at + NODE)
+    words::get::<8>(volume, at + NODE)
 }
 
 // The index in the row that starts at index at.
@@ -41,7 +41,7 @@ pub fn entry_index(volume: &[u8], at: usize) -> u64
     requires { at + entry_row ≤ length volume.now }
     ensures { (result ≡ (read_entry (part volume.now at entry_row)).index) × (result < 4294967296) }
 {
-    words::get32(volume, at + INDEX)
+    words::get::<4>(volume, at + INDEX)
 }
 
 // The name in the row that starts at index at, as a part of the volume.
@@ -50,7 +50,7 @@ pub fn entry_name(volume: &[u8], at: usize) -> &[u8]
     ensures { result.now ≡ (read_entry (part volume.now at entry_row)).name }
 {
     let start = at + NAME;
-    let long = words::get32(volume, at + NAME_SIZE) as usize;
+    let long = words::get::<4>(volume, at + NAME_SIZE) as usize;
     &volume[start..start + long]
 }
 
@@ -60,10 +60,10 @@ pub fn write_entry(volume: &mut [u8], at: usize, parent: u64, node: u64, index: 
     ensures { volume.new ≡ over volume.old at (lay_entry (record { parent = parent; node = node; index = index; name = name.now })) }
 {
     let long = name.len();
-    words::put64(volume, at, parent);
-    words::put64(volume, at + NODE, node);
-    words::put32(volume, at + INDEX, index);
-    words::put32(volume, at + NAME_SIZE, long as u64);
+    words::put::<8>(volume, at, parent);
+    words::put::<8>(volume, at + NODE, node);
+    words::put::<4>(volume, at + INDEX, index);
+    words::put::<4>(volume, at + NAME_SIZE, long as u64);
     words::copy(volume, at + NAME, name);
     words::clear(volume, at + NAME + long, types::NAME_ROOM - long);
 }
@@ -86,17 +86,10 @@ pub fn seek_entry(volume: &[u8], base: usize, used: usize, parent: u64, index: u
     requires { (base + entry_row * used ≤ length volume.now) × Falls (entry_under parent index) (table read_entry entry_row volume.now base used) }
     ensures { (result ≡ lead (entry_under parent index) (table read_entry entry_row volume.now base used)) × (result ≤ used) }
 {
-    let mut low = 0;
-    let mut high = used;
-    while low < high {
-        let middle = low + (high - low) / 2;
-        if entry_under(volume, base + ENTRY_ROW * middle, parent, index) {
-            low = middle + 1;
-        } else {
-            high = middle;
-        }
-    }
-    low
+    words::seek(
+        used,
+        |i| entry_under(volume, base + ENTRY_ROW * i, parent, index),
+    )
 }
 
 // Whether the bytes at index at can be an entry's row.
@@ -104,7 +97,7 @@ pub fn entry_formed(volume: &[u8], at: usize) -> bool
     requires { at + entry_row ≤ length volume.now }
     ensures { result ≡ entry_formed volume.now at }
 {
-    let long = words::get32(volume, at + NAME_SIZE) as usize;
+    let long = words::get::<4>(volume, at + NAME_SIZE) as usize;
     if long < 1 {
         return false;
     }

@@ -5,10 +5,10 @@ ghost use Rattle.volume.specs.Volume.{at_nodes};
 ghost use Rattle.volume.specs.Framed.{Placed};
 ghost use Rattle.volume.specs.Fresh.{root, new_volume, fresh_laid};
 
+use crate::FORM;
 use crate::geometry::place_tables;
 use crate::nodes::write_node;
-use crate::{FORM, Place};
-use types::{Answer, Error, FileType, Limit, NodeRecord};
+use types::{Error, FileType, NodeRecord};
 
 // The number of the first node made behind node 0.
 const FIRST_NODE: u64 = 1;
@@ -20,7 +20,7 @@ fn root() -> NodeRecord
     NodeRecord {
         node: 0,
         kind: FileType::Directory,
-        limit: Limit::Unlimited,
+        limit: None,
         links: 1,
         size: 0,
     }
@@ -50,16 +50,21 @@ fn lay(volume: &mut [u8], nodes: u64, entries: u64, chunks: u64, span: u64, at: 
 }
 
 // Makes a volume of all of a memory, whatever it held. Refused numbers change nothing.
-pub fn new_volume(volume: &mut [u8], nodes: u64, entries: u64, chunks: u64, span: u64) -> Answer
+pub fn new_volume(
+    volume: &mut [u8],
+    nodes: u64,
+    entries: u64,
+    chunks: u64,
+    span: u64,
+) -> Result<u64, Error>
     ensures { outcome result volume.new ≡ new_volume nodes entries chunks span volume.old }
 {
-    let place = place_tables(nodes, entries, chunks, volume.len() as u64);
-    let Place::At(layout) = place else {
-        return Answer::Refused(Error::InvalidArgument);
-    };
+    let layout = place_tables(nodes, entries, chunks, volume.len() as u64).ok_or(
+        Error::InvalidArgument,
+    )?;
     if !allocator::accepted(span) {
-        return Answer::Refused(Error::InvalidArgument);
+        return Err(Error::InvalidArgument);
     }
     lay(volume, nodes, entries, chunks, span, layout.nodes);
-    Answer::Done(0)
+    Ok(0)
 }

@@ -5,7 +5,7 @@ ghost use Rattle.volume.specs.Geometry.{roomy};
 ghost use Rattle.volume.specs.Layouts.{layout_of, layout_in, place_of};
 ghost use Rattle.volume.specs.Framed.{Headed};
 
-use crate::{CHUNK_ROOM, CHUNK_ROW, ENTRY_ROOM, ENTRY_ROW, Layout, NODE_ROOM, NODE_ROW, Place};
+use crate::{CHUNK_ROOM, CHUNK_ROW, ENTRY_ROOM, ENTRY_ROW, Layout, NODE_ROOM, NODE_ROW};
 
 // The node rows stand behind the header's words, the allocator's first words, and a word for each chunk.
 const FIRST_TABLE: usize = types::WORD * (types::HEADER_WORDS + types::ALLOCATOR_WORDS);
@@ -37,24 +37,24 @@ fn starts(nodes: u64, entries: u64, chunks: u64) -> Layout
 }
 
 // Where the areas of a memory of this many bytes start: nowhere if a table's room is out of bounds or the memory too short.
-pub fn place_tables(nodes: u64, entries: u64, chunks: u64, extent: u64) -> Place
+pub fn place_tables(nodes: u64, entries: u64, chunks: u64, extent: u64) -> Option<Layout>
     ensures { result ≡ place_of nodes entries chunks extent }
 {
     if !is_roomy(nodes) {
-        return Place::Nowhere;
+        return None;
     }
     if !is_roomy(entries) {
-        return Place::Nowhere;
+        return None;
     }
     if !is_roomy(chunks) {
-        return Place::Nowhere;
+        return None;
     }
     let layout = starts(nodes, entries, chunks);
     let area = layout.area as u64;
     if extent < area + types::LEAST_AREA {
-        return Place::Nowhere;
+        return None;
     }
-    Place::At(layout)
+    Some(layout)
 }
 
 // The areas of a volume whose header was checked.
@@ -63,8 +63,8 @@ pub fn read_layout(volume: &[u8]) -> Layout
     ensures { result ≡ layout_in volume.now }
 {
     starts(
-        words::get64(volume, NODE_ROOM),
-        words::get64(volume, ENTRY_ROOM),
-        words::get64(volume, CHUNK_ROOM),
+        words::get::<8>(volume, NODE_ROOM),
+        words::get::<8>(volume, ENTRY_ROOM),
+        words::get::<8>(volume, CHUNK_ROOM),
     )
 }

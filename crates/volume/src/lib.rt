@@ -15,7 +15,6 @@ pub use entries::{
 };
 pub use fresh::new_volume;
 pub use geometry::{place_tables, read_layout};
-pub use kinds::{Kind, kind_of};
 pub use nodes::{node_formed, read_node, seek_node, write_node};
 pub use pairs::pair_before;
 
@@ -62,11 +61,4 @@ pub struct Layout {
     pub entries: usize,
     pub chunks: usize,
     pub area: usize,
-}
-
-// Where the areas of a memory start, if it can be a volume.
-#[derive(Clone, Copy)]
-pub enum Place {
-    At(Layout),
-    Nowhere,
 }

@@ -3,12 +3,12 @@ ghost use Rattle.std.specs.Prelude.{◌≡◌, ◌+◌, ◌*◌, ◌≤◌, leng
 ghost use Rattle.words.specs.Bytes.{part, over};
 ghost use Rattle.words.specs.Tables.{table, lead};
 ghost use Rattle.words.specs.Tests.{Falls};
-ghost use Rattle.volume.specs.Rows.{kind_or, lay_node, read_node, node_row};
+ghost use Rattle.volume.specs.Rows.{lay_node, read_node, node_row};
 ghost use Rattle.volume.specs.RowTests.{limit_formed, node_formed};
 ghost use Rattle.volume.specs.Search.{node_under};
 
 use crate::NODE_ROW;
-use crate::kinds::{Kind, kind_byte, kind_of, limit_flag, limit_of};
+use crate::kinds::{limit_flag, limit_of};
 use types::{FileType, NodeRecord};
 
 // Where the fields of a row start, behind its node: the type byte, the limit flag, zeros, links, size and limit.
@@ -32,31 +32,21 @@ const LIMITED: u64 = 1;
 // How many zeros stand behind the flag.
 const SPARE_SIZE: usize = 6;
 
-// A byte that means no kind is taken for a directory; no row of a framed volume has one.
-fn known(kind: Kind) -> FileType
-    ensures { result ≡ kind_or kind }
-{
-    match kind {
-        Kind::Known(known) => known,
-        Kind::Unknown => FileType::Directory,
-    }
-}
-
-// The node whose row starts at index at.
+// The node whose row starts at index at. A byte that means no kind is taken for a directory; no row of a framed volume has one.
 pub fn read_node(volume: &[u8], at: usize) -> NodeRecord
     requires { at + node_row ≤ length volume.now }
     ensures { result ≡ read_node (part volume.now at node_row) }
 {
-    let byte = words::get8(volume, at + KIND) as u8;
-    let flag = words::get8(volume, at + FLAG) as u8;
-    let kind = known(kind_of(byte));
-    let limit = limit_of(flag, words::get64(volume, at + LIMIT));
+    let byte = words::get::<1>(volume, at + KIND) as u8;
+    let flag = words::get::<1>(volume, at + FLAG) as u8;
+    let kind = FileType::try_from(byte).unwrap_or(FileType::Directory);
+    let limit = limit_of(flag, words::get::<8>(volume, at + LIMIT));
     NodeRecord {
-        node: words::get64(volume, at),
+        node: words::get::<8>(volume, at),
         kind,
         limit,
-        links: words::get64(volume, at + LINKS),
-        size: words::get64(volume, at + SIZE),
+        links: words::get::<8>(volume, at + LINKS),
+        size: words::get::<8>(volume, at + SIZE),
     }
 }
 
@@ -65,14 +55,12 @@ pub fn write_node(volume: &mut [u8], at: usize, row: NodeRecord)
     requires { at + node_row ≤ length volume.old }
     ensures { volume.new ≡ over volume.old at (lay_node row) }
 {
-    let kind = row.kind;
-    let limit = row.limit;
-    let byte = kind_byte(kind) as u64;
-    let flag = limit_flag(limit) as u64;
-    let rest = [row.links, row.size, types::limit_word(limit)];
-    words::put64(volume, at, row.node);
-    words::put8(volume, at + KIND, byte);
-    words::put8(volume, at + FLAG, flag);
+    let byte = u8::from(row.kind) as u64;
+    let flag = limit_flag(row.limit) as u64;
+    let rest = [row.links, row.size, types::limit_word(row.limit)];
+    words::put::<8>(volume, at, row.node);
+    words::put::<1>(volume, at + KIND, byte);
+    words::put::<1>(volume, at + FLAG, flag);
     words::clear(volume, at + SPARE, SPARE_SIZE);
     words::put_words(volume, at + LINKS, &rest);
 }
@@ -82,17 +70,10 @@ pub fn seek_node(volume: &[u8], base: usize, used: usize, node: u64) -> usize
     requires { (base + node_row * used ≤ length volume.now) × Falls (node_under node) (table read_node node_row volume.now base used) }
     ensures { (result ≡ lead (node_under node) (table read_node node_row volume.now base used)) × (result ≤ used) }
 {
-    let mut low = 0;
-    let mut high = used;
-    while low < high {
-        let middle = low + (high - low) / 2;
-        if words::get64(volume, base + NODE_ROW * middle) < node {
-            low = middle + 1;
-        } else {
-            high = middle;
-        }
-    }
-    low
+    words::seek(
+        used,
+        |i| words::get::<8>(volume, base + NODE_ROW * i) < node,
+    )
 }
 
 // Whether a limit fits its flag: at most 2^40 under flag 1, 0 under flag 0.
@@ -113,14 +94,13 @@ pub fn node_formed(volume: &[u8], at: usize) -> bool
     requires { at + node_row ≤ length volume.now }
     ensures { result ≡ node_formed volume.now at }
 {
-    let byte = words::get8(volume, at + KIND) as u8;
-    let kind = kind_of(byte);
-    let Kind::Known(_) = kind else {
+    let byte = words::get::<1>(volume, at + KIND) as u8;
+    if FileType::try_from(byte).is_err() {
         return false;
-    };
+    }
     if !limit_formed(
-        words::get8(volume, at + FLAG),
-        words::get64(volume, at + LIMIT),
+        words::get::<1>(volume, at + FLAG),
+        words::get::<8>(volume, at + LIMIT),
     ) {
         return false;
     }

@@ -1,8 +1,10 @@
 pub mod Parts
 pub mod Written
 pub mod Numbers
+pub mod Halves
 pub mod Joined
 pub mod Rules
+pub mod Upto
 pub mod Blocks
 pub mod RankOrder
 pub mod Order
@@ -15,7 +17,6 @@ pub mod Pieces
 pub mod Areas
 pub mod Search
 pub mod FoundRows
-pub mod WriteLoops
 pub mod Only
 pub mod Runs
 pub mod Middle

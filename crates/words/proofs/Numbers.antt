@@ -2,14 +2,16 @@
 -- Assumes nothing.
 use mathlib.Core.Path.{◌≡◌, refl, sym, ap, ◌∙◌}
 use mathlib.Core.List.{List, [], ◌∷◌, ◌++◌}
-use Prim.Native.Nat.{ℕ, zero, suc, ◌+◌, ◌*◌, ◌/◌, ◌%◌, ◌^◌, ◌≤◌, ◌<◌}
-use native.Mathlib.Nat.{zero-add, suc-add, pow-succ', mul_assoc, mul-add, div-div-eq-div-mul, div-one}
+use Prim.Native.Nat.{ℕ, zero, suc, ◌+◌, ◌-◌, ◌*◌, ◌/◌, ◌%◌, ◌^◌, ◌≤◌, ◌<◌}
+use native.Mathlib.Nat.{zero-add, suc-add, pow-suc, pow-succ', mul_assoc, mul-add, div-div-eq-div-mul, div-one}
 use native.Mathlib.Omega.{arith}
 use native.Mathlib.Decide.{dec_lt}
-use lib.ListN.{length, take, drop, get_or, length-take, length-drop, get_or-eq_default}
-use lib.Seq.{get_or-take, get_or-drop, drop-cons}
-use Rattle.words.specs.Bytes.{part, over, little_endian, spell, num, Bytes}
-use Rattle.words.proofs.Parts.{length_part, length_over, part-add, part-mid, part-over-before, part-over-after, two, part-part}
+use lib.ListN.{length, take, drop, get_or, length-append, length-take, length-drop, get_or-eq_default}
+use lib.Seq.{get_or-take, get_or-drop, drop-cons, take-suc, take_at, take_all, length-take-le}
+use mir.Syntax.{w64}
+use Rattle.std.specs.Int.{to_le_bytes, from_le_bytes, bytes_low_first, byte_at, byte_worth, sum_through}
+use Rattle.words.specs.Bytes.{part, over, zeros, little_endian, spell, num, Bytes}
+use Rattle.words.proofs.Parts.{length_part, length_over, part-add, part-mid, part-over-before, part-over-after, part-part, length-zeros}
 
 pub little-endian-append : (a b : List ℕ) → little_endian (a ++ b) ≡ little_endian a + 256 ^ length a * little_endian b
 unfolding little_endian
@@ -50,13 +52,6 @@ num-over-before n l at bs i h e = ap little_endian (part-over-before l at bs i n
 pub num-over-after : (n : ℕ) (l : List ℕ) (at : ℕ) (bs : List ℕ) (i : ℕ) → at + length bs ≤ i → at ≤ length l → num n (over l at bs) i ≡ num n l i
 unfolding num
 num-over-after n l at bs i h e = ap little_endian (part-over-after l at bs i n h e)
-
--- the n bytes of the rest of x right behind its m least
-pub put-add : (i j : ℕ) (l : List ℕ) (at x : ℕ) {m r : List ℕ} → m ≡ over l at (spell i x) → r ≡ over m (at + i) (spell j (x / 256 ^ i)) → at + (i + j) ≤ length l → r ≡ over l at (spell (i + j) x)
-put-add i j l at x p q h =
-    let a = length-spell i x in
-    let b = length-spell j (x / 256 ^ i) in
-    two l at (spell i x) (spell j (x / 256 ^ i)) (at + i) p q (omega arith) (omega arith) ∙ ap (over l at) (sym (spell-add i j x))
 
 pub get_or-over-before : (l : List ℕ) (at : ℕ) (bs : List ℕ) (i : ℕ) → at + length bs ≤ length l → i < at → get_or (over l at bs) i 0 ≡ get_or l i 0
 get_or-over-before l at bs i h e =
@@ -114,3 +109,47 @@ little-endian-below (x ∷ l) h =
 pub num-below : (n : ℕ) (l : List ℕ) (at : ℕ) → Bytes l → at + n ≤ length l → num n l at < 256 ^ n
 unfolding num
 num-below n l at b h = rw (length_part l at n h) at (little-endian-below (part l at n) (bytes-part l at n b h))
+
+-- ---- the bytes of a u64, as std speaks of them
+
+byte-at : (i x : ℕ) → byte_at i x ≡ x / 256 ^ i % 256
+byte-at zero x = rw div-one
+byte-at (suc i) x = refl
+
+bytes-low : (i k x : ℕ) → bytes_low_first i k x ≡ spell k (x / 256 ^ i)
+unfolding spell
+bytes-low i zero x = refl
+bytes-low i (suc k) x = rw (byte-at, bytes-low (suc i) k x, div-div-eq-div-mul, pow-suc)
+
+pub to-bytes : (x : ℕ) → to_le_bytes w64 x ≡ spell 8 x
+to-bytes x = rw div-one at (bytes-low 0 8 x)
+
+bytes-sum : (l : List ℕ) (k : ℕ) → k < length l → sum_through (λ i. byte_worth i (get_or l i 0)) k ≡ little_endian (take (suc k) l)
+unfolding little_endian
+bytes-sum l zero h = rw (take-suc l 0 0 h) (omega arith)
+bytes-sum l (suc k) h =
+    let n : length (take (suc k) l) ≡ suc k = length-take-le (suc k) l (omega arith) in
+    let x = get_or l (suc k) 0 in
+    rw (take-suc l (suc k) 0 h, little-endian-append, n, bytes-sum l k (omega arith)) (omega arith)
+
+little-endian-zeros : (n m : ℕ) → little_endian (drop n (zeros m)) ≡ 0
+unfolding little_endian zeros
+little-endian-zeros zero zero = refl
+little-endian-zeros zero (suc m) = omega (arith, little-endian-zeros zero m)
+little-endian-zeros (suc n) zero = refl
+little-endian-zeros (suc n) (suc m) = little-endian-zeros n m
+
+-- a part of at most 8 bytes, filled up with zeros
+pub from-bytes : (l : List ℕ) (at n : ℕ) {p : List ℕ} → p ≡ part l at n → n ≤ 8 → at + n ≤ length l → from_le_bytes w64 (p ++ drop n (zeros 8)) ≡ num n l at
+unfolding num
+from-bytes l at n {p} e h k =
+    let m : length p ≡ n = rw e (length_part l at n k) in
+    let w : length (p ++ drop n (zeros 8)) ≡ 8 = simp (length-append, length-drop, length-zeros) (omega arith) in
+    bytes-sum (p ++ drop n (zeros 8)) 7 (omega arith)
+    ∙ rw (take_all 8 (p ++ drop n (zeros 8)) (omega arith), little-endian-append, little-endian-zeros, m, e) (omega arith)
+
+-- the n least bytes of a u64
+pub least-bytes : (n x : ℕ) → n ≤ 8 → take n (to_le_bytes w64 x) ≡ spell n x
+least-bytes n x h =
+    let k : 8 ≡ n + (8 - n) = omega arith in
+    rw (to-bytes, k, spell-add) (take_at (spell n x) (spell (8 - n) (x / 256 ^ n)) n (length-spell n x))

@@ -141,23 +141,11 @@ part-over-after l at bs i n h e =
 pub two : (l : List ℕ) (at : ℕ) (a b : List ℕ) (n : ℕ) {m r : List ℕ} → m ≡ over l at a → r ≡ over m n b → n ≡ at + length a → at + length a + length b ≤ length l → r ≡ over l at (a ++ b)
 two l at a b n p q e h = q ∙ rw (p, e) (over-over l at a b h)
 
--- the n bytes of the rest of x right behind its m least
-
 -- a right before b
 pub before : (l : List ℕ) (at : ℕ) (a b : List ℕ) (n : ℕ) {m r : List ℕ} → m ≡ over l n b → r ≡ over m at a → n ≡ at + length a → at + length a + length b ≤ length l → r ≡ over l at (a ++ b)
 before l at a b n p q e h = q ∙ rw (p, e) (over-before l at a b h)
 
--- ---- one byte more, as a turn of a loop writes it
-
-pub over-snoc : (l : List ℕ) (at : ℕ) (bs : List ℕ) (x : ℕ) → at + length bs < length l → set (over l at bs) (at + length bs) x ≡ over l at (bs ++ (x ∷ []))
-over-snoc l at bs x h =
-    set-over (over l at bs) (at + length bs) x (rw (length_over l at bs (omega arith)) h)
-    ∙ over-over l at bs (x ∷ []) (omega arith)
-
-pub over-cons : (l : List ℕ) (at : ℕ) (bs : List ℕ) (x : ℕ) → at + 1 + length bs ≤ length l → set (over l (at + 1) bs) at x ≡ over l at (x ∷ bs)
-over-cons l at bs x h =
-    set-over (over l (at + 1) bs) at x (rw (length_over l (at + 1) bs h) (omega arith))
-    ∙ over-before l at (x ∷ []) bs (omega arith)
+-- ---- one byte more
 
 pub part-cons : (l : List ℕ) (at n : ℕ) → at < length l → part l at (n + 1) ≡ get_or l at 0 ∷ part l (at + 1) n
 unfolding part
@@ -169,8 +157,6 @@ part-one l at h = rw (drop-cons l at 0 h)
 
 pub part-snoc : (l : List ℕ) (at n : ℕ) → at + n < length l → part l at (n + 1) ≡ part l at n ++ (get_or l (at + n) 0 ∷ [])
 part-snoc l at n h = part-add l at n 1 ∙ ap (λ (r : List ℕ). part l at n ++ r) (part-one l (at + n) h)
-
--- turns of `copy`, `clear`, `shift_up` and `shift_down`
 
 pub part_none : (l : List ℕ) (at n : ℕ) → part l at (n - n) ≡ []
 unfolding part
@@ -201,3 +187,8 @@ unfolding over
 lent_at l at n ys bs e h =
     let k : at + n - at ≡ length bs = omega arith in
     rw (e, k, drop-drop (length bs) at l)
+
+-- a part of a list, pasted into it
+pub pasted : (l : List ℕ) (from at n : ℕ) → from + n ≤ length l → (take at l ++ part l from n) ++ drop (at + n) l ≡ over l at (part l from n)
+unfolding over
+pasted l from at n h = rw (length_part l from n h, append_assoc)

@@ -1,14 +1,14 @@
 -- Laws of `rank`: equal byte strings alone have one rank, and the first difference from the end decides which of two is lower.
 -- Assumes nothing.
 use mathlib.Core.Path.{◌≡◌, refl, sym, ap, ◌∙◌}
-use mathlib.Core.Bool.{Bool, false}
+use mathlib.Core.Bool.{Bool}
 use mathlib.Core.List.{List, ◌++◌}
-use Prim.Native.Nat.{ℕ, zero, suc, ◌+◌, ◌-◌, ◌*◌, ◌^◌, ◌≤◌, ◌<◌}
-use native.Mathlib.Nat.{mul-le-mul_left, pow-le-pow_right, pow-succ', mul-add, mul-one}
+use Prim.Native.Nat.{ℕ, suc, ◌+◌, ◌-◌, ◌*◌, ◌^◌, ◌≤◌, ◌<◌}
+use native.Mathlib.Nat.{mul-le-mul_left, pow-le-pow_right, pow-succ', mul-add, mul-one, mul-suc}
 use native.Mathlib.Numerals.{add-one}
 use native.Mathlib.Omega.{arith}
 use lib.Dec.{ltb}
-use lib.ListN.{length, take, drop, length-take, take-append-drop, drop_of_length-le}
+use lib.ListN.{length, take, drop, length-take, take-append-drop}
 use lib.Seq.{drop-drop}
 use Rattle.words.specs.Bytes.{part, little_endian, num, Bytes}
 use Rattle.words.specs.Rules.{Says, holds, fails}
@@ -79,16 +79,25 @@ module _ (a b : List ℕ) (ba : Bytes a) (bb : Bytes b) where
           let s : take w (drop k b) ++ drop (k + w) b ≡ drop k b = rw (← drop-drop, take-append-drop) in
           sym r ∙ rw (m, e) s
 
-  -- the same, for the w bytes before i
-  module _ (w i : ℕ) (l : w ≤ i) (h : i ≤ length a) (n : length a ≡ length b) (e : drop i a ≡ drop i b) {x y : ℕ} (p : x ≡ num w a (i - w)) (q : y ≡ num w b (i - w)) where
-    behind : drop (i - w + w) a ≡ drop (i - w + w) b
-    behind = let m : i - w + w ≡ i = omega arith in rw m e
+  -- the same, for the last of i blocks of w bytes from index from on
+  module _ (w from i count : ℕ) (l : 0 < i) (m : i ≤ count) (h : from + w * count ≤ length a) (n : length a ≡ length b) (e : drop (from + w * i) a ≡ drop (from + w * i) b) {x y : ℕ} (p : x ≡ num w a (from + w * (i - 1))) (q : y ≡ num w b (from + w * (i - 1))) where
+    block-end : from + w * (i - 1) + w ≡ from + w * i
+    block-end =
+        let k : suc (i - 1) ≡ i = omega arith in
+        let t : w * i ≡ w * (i - 1) + w = rw k at (mul-suc w (i - 1)) in
+        omega arith
 
-    pub by_bytes : (x ≡ y → ⊥) → ltb x y ≡ ltb (rank a) (rank b)
-    by_bytes = by-those w (i - w) (omega arith) n behind p q
+    within : from + w * (i - 1) + w ≤ length a
+    within = omega (arith, block-end, mul-le-mul_left {m = i} {n = count} w m)
 
-    pub back-same : x ≡ y → drop (i - w) a ≡ drop (i - w) b
-    back-same = those-same w (i - w) (omega arith) n behind p q
+    behind : drop (from + w * (i - 1) + w) a ≡ drop (from + w * (i - 1) + w) b
+    behind = rw block-end e
+
+    pub by_block : (x ≡ y → ⊥) → ltb x y ≡ ltb (rank a) (rank b)
+    by_block = by-those w (from + w * (i - 1)) within n behind p q
+
+    pub back-same : x ≡ y → drop (from + w * (i - 1)) a ≡ drop (from + w * (i - 1)) b
+    back-same = those-same w (from + w * (i - 1)) within n behind p q
 
   -- ---- equal ones
 
@@ -105,11 +114,3 @@ module _ (a b : List ℕ) (ba : Bytes a) (bb : Bytes b) where
       go (fails h) (fails k) =
           let l : length a ≡ length b = omega arith in
           sym (spell-value a ba) ∙ rw (l, values_same l e) (spell-value b bb)
-
--- nothing stands behind the last byte
-pub drop-whole : (a b : List ℕ) → length a ≡ length b → drop (length a) a ≡ drop (length a) b
-drop-whole a b n = drop_of_length-le a {i = length a} (omega arith) ∙ sym (drop_of_length-le b {i = length a} (omega arith))
-
-pub equal-ranks : (a b : List ℕ) (i : ℕ) → i < 1 → drop i a ≡ drop i b → false ≡ ltb (rank a) (rank b)
-equal-ranks a b zero l e = sym (false-says (says-ltb (rank a) (rank b)) (λ h. let z : rank a ≡ rank b = ap rank e in omega arith))
-equal-ranks a b (suc i) l e = absurd (omega arith)

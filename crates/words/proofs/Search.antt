@@ -3,15 +3,17 @@
 use mathlib.Core.Path.{◌≡◌, refl, sym, ap, ◌∙◌}
 use mathlib.Core.Bool.{Bool, true, false, false≢true}
 use mathlib.Core.List.{List, [], ◌∷◌}
-use Prim.Native.Nat.{ℕ, zero, suc, ◌+◌, ◌-◌, ◌*◌, ◌/◌, ◌≤◌, ◌<◌}
-use native.Mathlib.Nat.{zero-add, not-suc-le-zero, le_of_suc-le-suc}
+use Prim.Native.Nat.{ℕ, zero, suc, ◌+◌, ◌-◌, ◌*◌, ◌≤◌, ◌<◌}
+use native.Mathlib.Nat.{zero-add, not-suc-le-zero, le_of_suc-le-suc, le_antisymm}
 use native.Mathlib.Numerals.{add-one, one-add}
 use native.Mathlib.Omega.{arith}
+use native.Mathlib.Decide.{dec_lt}
 use mathlib.Core.Option.{none, some}
 use lib.ListN.{length, drop, get_or, drop_of_length-le}
 use lib.Seq.{drop-cons}
 use Rattle.words.specs.Bytes.{part}
 use Rattle.words.specs.Rules.{pick}
+use Rattle.words.specs.Seek.{TellsBelow, FallsBelow, SplitsAt}
 use Rattle.words.specs.Tables.{Asc, Each, find, insert_at, lead, lead_of, table}
 use Rattle.words.specs.Tests.{Falls}
 use Rattle.words.proofs.Order.{each_at, each_map}
@@ -61,23 +63,38 @@ module _ {R : Type 0} (f : R → Bool) (read : List ℕ → R) (s : ℕ) (l : Li
   pub seek-down : f (read (part l (at + s * k) s)) ≡ false → lead f (table read s l at n) ≤ k
   seek-down e = lead-below f (table read s l at n) k (read []) (rw length-table h) (ap f (table_at read s l at n k (read []) h) ∙ e)
 
--- ---- a search by halving: the rows before low pass the test, and those from high on fail it
+-- ---- a search by halving: where a test of the places of rows splits them
 
-module _ {R : Type 0} (f : R → Bool) (read : List ℕ → R) (s : ℕ) (l : List ℕ) (base used : ℕ) where
-  abbrev pub Between : ℕ → ℕ → Type 0
-  Between low high = (low ≤ lead f (table read s l base used)) × (lead f (table read s l base used) ≤ high) × (high ≤ used)
+module _ {R : Type 0} (f : R → Bool) (read : List ℕ → R) (s : ℕ) (l : List ℕ) (base used : ℕ) (g : Falls f (table read s l base used)) where
+  -- whether the row at a place passes
+  abbrev pub passes_at : ℕ → Bool
+  passes_at k = f (read (part l (base + s * k) s))
 
-  pub all-between : Between 0 used
-  all-between = omega (arith, lead-le f (table read s l base used), length-table read s l base used)
+  -- below a place that fails, the rows that lead end
+  falls-places : FallsBelow passes_at used
+  falls-places = record { falls = λ j k b h e. go j k b h e (passes_at k) refl }
+    where
+      go : (j k : ℕ) → j ≤ k → k < used → passes_at j ≡ false → (t : Bool) → passes_at k ≡ t → passes_at k ≡ false
+      go j k b h e true q = absurd (omega (arith, seek-up f read s l base used k h g q, seek-down f read s l base used j (omega arith) e))
+      go j k b h e false q = q
 
-  pub upper-half : (low high : ℕ) → Between low high → low < high → Falls f (table read s l base used) → f (read (part l (base + s * (low + (high - low) / 2)) s)) ≡ true → Between (low + (high - low) / 2 + 1) high
-  upper-half low high b h g t = omega (arith, seek-up f read s l base used (low + (high - low) / 2) (omega arith) g t)
+  split-lead : (r : ℕ) → SplitsAt passes_at used r → r ≡ lead f (table read s l base used)
+  split-lead r p = le_antisymm (low r p.bound p.holds) (high (dec_lt r used))
+    where
+      low : (n : ℕ) → n ≤ used → ((k : ℕ) → k < n → passes_at k ≡ true) → n ≤ lead f (table read s l base used)
+      low zero b h = omega arith
+      low (suc n) b h = seek-up f read s l base used n (omega arith) g (h n (omega arith))
 
-  pub lower-half : (low high : ℕ) → Between low high → low < high → f (read (part l (base + s * (low + (high - low) / 2)) s)) ≡ false → Between low (low + (high - low) / 2)
-  lower-half low high b h t = omega (arith, seek-down f read s l base used (low + (high - low) / 2) (omega arith) t)
+      high : Dec (r < used) → lead f (table read s l base used) ≤ r
+      high (yes h) = seek-down f read s l base used r h (p.fails r (omega arith) h)
+      high (no h) = omega (arith, lead-le f (table read s l base used), length-table read s l base used)
 
-  pub none_between : (low high : ℕ) → Between low high → high ≤ low → (low ≡ lead f (table read s l base used)) × (low ≤ used)
-  none_between low high b h = omega arith
+  -- what `seek` finds among rows, where its test tells of each whether it passes
+  pub seek-lead : {tells : ℕ → Bool → Type 0} {r : ℕ} → ((p : ℕ → Bool) → TellsBelow tells p used → FallsBelow p used → SplitsAt p used r)
+      → ((k : ℕ) (t : Bool) → k < used → tells k t → t ≡ passes_at k) → (r ≡ lead f (table read s l base used)) × (r ≤ used)
+  seek-lead {r = r} split t =
+      let p = split passes_at (record { told = t }) falls-places in
+      (split-lead r p, p.bound)
 
 -- ---- rows in order
 

@@ -1,13 +1,13 @@
 -- Bytes written over all of a list or over a part of it, and each byte of what comes of it.
 -- Assumes nothing.
 use mathlib.Core.Path.{◌≡◌, refl, sym, ap, ◌∙◌}
-use mathlib.Core.List.{List, [], ◌++◌, append_assoc, append-nil}
+use mathlib.Core.List.{List, [], ◌++◌, append-nil}
 use Prim.Native.Nat.{ℕ, ◌+◌, ◌-◌, ◌≤◌, ◌<◌}
 use native.Mathlib.Omega.{arith}
-use lib.ListN.{length, take, drop, get_or, length-append, get_or-append}
+use lib.ListN.{length, take, drop, get_or, get_or-append}
 use lib.Seq.{take_all, length-take-le, get_or-append-add, get_or-take, get_or-drop}
-use Rattle.words.specs.Bytes.{part, over, zeros}
-use Rattle.words.proofs.Parts.{length-zeros, zeros-add, length_over, length_part, over-mid, over-in, cut, two}
+use Rattle.words.specs.Bytes.{part, over}
+use Rattle.words.proofs.Parts.{length_over, length_part, over-mid, over-in, cut}
 
 -- ---- all of a list
 
@@ -33,7 +33,7 @@ over-within l p zs i bs h k =
     ∙ sym (over-as l p (over zs i bs) zs (length_over zs i bs k))
 
 -- a part put back where it was
-pub over-part : (l : List ℕ) (at n : ℕ) → at + n ≤ length l → over l at (part l at n) ≡ l
+over-part : (l : List ℕ) (at n : ℕ) → at + n ≤ length l → over l at (part l at n) ≡ l
 unfolding over
 over-part l at n h = rw (length_part l at n h) (sym (cut l at n))
 
@@ -48,31 +48,6 @@ pub length-lent : (l : List ℕ) (at n : ℕ) → at + n ≤ length l → length
 length-lent l at n h =
     let w : at + n - at ≡ n = omega arith in
     rw w (unfold part in length_part l at n h)
-
--- ---- zeros
-
--- zeros, bytes and zeros written one behind the other
-pub filled : (l : List ℕ) (place : ℕ) (bs : List ℕ) → place + length bs ≤ length l → {a b c : List ℕ} → a ≡ over l 0 (zeros place) → b ≡ over a place bs
-    → c ≡ over b (place + length bs) (zeros (length l - (place + length bs))) → c ≡ over (zeros (length l)) place bs
-filled l place bs h {a} {b} {c} ea eb ec =
-    let n = length-zeros place in
-    let rest = length l - (place + length bs) in
-    let m = length-zeros rest in
-    let j = length-append (zeros place) bs in
-    let k = length-append (zeros place ++ bs) (zeros rest) in
-    let f : b ≡ over l 0 (zeros place ++ bs) = two l 0 (zeros place) bs place ea eb (omega arith) (omega arith) in
-    let g : c ≡ over l 0 ((zeros place ++ bs) ++ zeros rest) = two l 0 (zeros place ++ bs) (zeros rest) (place + length bs) f ec (omega arith) (omega arith) in
-    g ∙ over-all l ((zeros place ++ bs) ++ zeros rest) (omega arith) ∙ append_assoc (zeros place) bs (zeros rest) ∙ sym around
-  where
-    whole : zeros (length l) ≡ zeros place ++ (zeros (length bs) ++ zeros (length l - (place + length bs)))
-    whole =
-        let e : length l ≡ place + (length bs + (length l - (place + length bs))) = omega arith in
-        ap zeros e ∙ sym (ap (λ (r : List ℕ). zeros place ++ r) (zeros-add (length bs) (length l - (place + length bs))) ∙ zeros-add place (length bs + (length l - (place + length bs))))
-
-    around : over (zeros (length l)) place bs ≡ zeros place ++ (bs ++ zeros (length l - (place + length bs)))
-    around =
-        ap (λ (r : List ℕ). over r place bs) whole
-        ∙ over-mid (zeros place) (zeros (length bs)) (zeros (length l - (place + length bs))) bs place (length-zeros place) (length-zeros (length bs))
 
 -- ---- each byte
 

@@ -1,4 +1,5 @@
 pub mod Bytes
 pub mod Rules
+pub mod Seek
 pub mod Tables
 pub mod Tests

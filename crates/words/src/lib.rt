@@ -4,90 +4,39 @@
 
 mod compare;
 mod dividing;
+mod halving;
 mod moves;
 mod ranks;
 
-ghost use Rattle.std.specs.Prelude.{◌≡◌, ◌+◌, ◌*◌, ◌≤◌, ◌<◌, length};
-ghost use Rattle.words.specs.Bytes.{over, spell, num, word};
+ghost use Rattle.std.specs.Prelude.{◌≡◌, ◌+◌, ◌*◌, ◌^◌, ◌≤◌, ◌<◌, length};
+ghost use Rattle.words.specs.Bytes.{over, spell, num};
 ghost use Rattle.words.specs.Tables.{lay_words};
 
 pub use compare::{is_zero, same};
 pub use dividing::{quotient, remainder};
+pub use halving::seek;
 pub use moves::{clear, copy, shift_down, shift_up};
 pub use ranks::ranks_below;
 
-// A byte as a number of 64 bits.
-fn wide(x: u8) -> u64
-    ensures { (result ≡ x) × (result < 256) }
+// The number that the N bytes from index at spell.
+pub fn get<const N: usize>(v: &[u8], at: usize) -> u64
+    requires width { N ≤ 8 }
+    requires inside { at + N ≤ length v.now }
+    ensures value { result ≡ num N v.now at }
+    ensures bound { result < 256 ^ N }
 {
-    x as u64
+    let mut bytes = [0; 8];
+    bytes[..N].copy_from_slice(&v[at..at + N]);
+    u64::from_le_bytes(bytes)
 }
 
-// The byte at index at.
-pub fn get8(v: &[u8], at: usize) -> u64
-    requires { at + 1 ≤ length v.now }
-    ensures { (result ≡ num 1 v.now at) × (result < 256) }
+// Writes the N least bytes of a number from index at.
+pub fn put<const N: usize>(v: &mut [u8], at: usize, x: u64)
+    requires width { N ≤ 8 }
+    requires inside { at + N ≤ length v.old }
+    ensures { v.new ≡ over v.old at (spell N x) }
 {
-    wide(v[at])
-}
-
-// The number that the 2 bytes from index at spell.
-pub fn get16(v: &[u8], at: usize) -> u64
-    requires { at + 2 ≤ length v.now }
-    ensures { (result ≡ num 2 v.now at) × (result < 65536) }
-{
-    get8(v, at) + 256 * get8(v, at + 1)
-}
-
-// The number that the 4 bytes from index at spell.
-pub fn get32(v: &[u8], at: usize) -> u64
-    requires { at + 4 ≤ length v.now }
-    ensures { (result ≡ num 4 v.now at) × (result < 4294967296) }
-{
-    get16(v, at) + 65536 * get16(v, at + 2)
-}
-
-// The number that the 8 bytes from index at spell.
-pub fn get64(v: &[u8], at: usize) -> u64
-    requires { at + 8 ≤ length v.now }
-    ensures { result ≡ word v.now at }
-{
-    get32(v, at) + 4294967296 * get32(v, at + 4)
-}
-
-// Writes a byte at index at.
-pub fn put8(v: &mut [u8], at: usize, x: u64)
-    requires { at + 1 ≤ length v.old }
-    ensures { v.new ≡ over v.old at (spell 1 x) }
-{
-    v[at] = (x % 256) as u8;
-}
-
-// Writes a number into the 2 bytes from index at.
-pub fn put16(v: &mut [u8], at: usize, x: u64)
-    requires { at + 2 ≤ length v.old }
-    ensures { v.new ≡ over v.old at (spell 2 x) }
-{
-    put8(v, at, x);
-    put8(v, at + 1, x / 256);
-}
-
-// Writes a number into the 4 bytes from index at.
-pub fn put32(v: &mut [u8], at: usize, x: u64)
-    requires { at + 4 ≤ length v.old }
-    ensures { v.new ≡ over v.old at (spell 4 x) }
-{
-    put16(v, at, x);
-    put16(v, at + 2, x / 65536);
-}
-
-// Writes a number into the 8 bytes from index at.
-pub fn put64(v: &mut [u8], at: usize, x: u64)
-    requires { at + 8 ≤ length v.old }
-    ensures { v.new ≡ over v.old at (spell 8 x) }
-{
-    put32(v, at, x);
-    put32(v, at + 4, x / 4294967296);
+    v[at..at + N].copy_from_slice(&x.to_le_bytes()[..N]);
 }
 
 // Writes words one behind another from index at.
@@ -95,11 +44,7 @@ pub fn put_words(v: &mut [u8], at: usize, ws: &[u64])
     requires { at + 8 * length ws.now ≤ length v.old }
     ensures { v.new ≡ over v.old at (lay_words ws.now) }
 {
-    let mut i = 0;
-    let mut to = at;
-    while i < ws.len() {
-        put64(v, to, ws[i]);
-        i += 1;
-        to += 8;
+    for (i, w) in ws.iter().enumerate() {
+        put::<8>(v, at + 8 * i, *w);
     }
 }

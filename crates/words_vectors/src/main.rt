@@ -3,9 +3,10 @@
 // that the function answers, or the checksum of the buffer that it changed, or `outside` where its contract forbids the call.
 #![tactic(auto)]
 
-ghost use Rattle.std.specs.Prelude.{◌≡◌, ◌+◌, ◌≤◌, ◌<◌, min, length};
+ghost use Rattle.std.specs.Prelude.{◌≡◌, true, ◌+◌, ◌≤◌, ◌<◌, length, IsSome};
 
-use vectors::{STDIN_FILENO, STDOUT_FILENO};
+use std::io;
+use vectors::Numbers;
 
 // Bytes of the buffer.
 const SIZE: usize = 1024;
@@ -36,277 +37,267 @@ const RANKS_BELOW: u64 = 10;
 // A line of PUT_WORDS has an index, how many words count, and then this many words.
 const WORDS: usize = 8;
 
-const FIRST_WORD: usize = 2;
-
-const MOST_ARGUMENTS: usize = FIRST_WORD + WORDS;
-
 const WORD: usize = 8;
 
 // The first byte of a pattern, and by how much each further one grows: in the buffer, and in the bytes that are copied into it.
-const FIRST_BYTE: u64 = 3;
+const FIRST_BYTE: u8 = 3;
 
-const BUFFER_STEP: u64 = 7;
+const BUFFER_STEP: u8 = 7;
 
-const SOURCE_STEP: u64 = 11;
+const SOURCE_STEP: u8 = 11;
 
+// A step: its function and the arguments.
 #[derive(Clone, Copy)]
-enum StepResult {
-    Number(u64),
-    Outside,
+enum Step {
+    Get {
+        bytes: usize,
+        at: usize,
+    },
+    Put {
+        bytes: usize,
+        at: usize,
+        x: u64,
+    },
+    PutWords {
+        at: usize,
+        n: usize,
+        words: [u64; WORDS],
+    },
+    Copy {
+        at: usize,
+        from: usize,
+        n: usize,
+    },
+    Clear {
+        at: usize,
+        n: usize,
+    },
+    ShiftUp {
+        from: usize,
+        to: usize,
+        by: usize,
+    },
+    ShiftDown {
+        from: usize,
+        to: usize,
+        by: usize,
+    },
+    Same {
+        n: usize,
+        m: usize,
+        at: usize,
+        x: u64,
+    },
+    IsZero {
+        from: usize,
+        n: usize,
+        at: usize,
+        x: u64,
+    },
+    RanksBelow {
+        n: usize,
+        m: usize,
+        at: usize,
+        x: u64,
+    },
+    Unknown,
 }
 
-fn main() {
-    let mut text = vectors::blank();
-    let n = io::read_full(STDIN_FILENO, &mut text);
-    replay(&text[..n]);
+fn main(rt: HostRuntime) -> io::Result<()> {
+    let text = vectors::read_text(&rt)?;
+    replay(&rt, &mut Numbers::new(&text))
 }
 
-fn replay(text: &[u8]) {
-    let mut at = 0;
-    while at < text.len() {
-        at = step(text, at);
+// The steps up to a step of END, or to the end of the text.
+fn replay(rt: &impl Print, numbers: &mut Numbers<'_>) -> io::Result<()> {
+    while let Some(step) = read_step(numbers) {
+        print(rt, run(step))?;
+    }
+    Ok(())
+}
+
+fn print(rt: &impl Print, answer: Option<u64>) -> io::Result<()> {
+    match answer {
+        Some(number) => println!(rt; "{number:x}"),
+        None => println!(rt; "outside"),
     }
 }
 
-// The step at index at. Answers where the next one starts.
-fn step(text: &[u8], at: usize) -> usize
-    ensures { (min (at + 1) (length text.now) ≤ result) × (result ≤ length text.now) }
+fn read_step(numbers: &mut Numbers<'_>) -> Option<Step>
+    ensures { IsSome result → length numbers.new < length numbers.old }
 {
-    let op = vectors::number(text, at);
-    if op.value == END {
-        return text.len();
-    }
-    let mut args = [0u64; MOST_ARGUMENTS];
-    let n = arguments(op.value);
-    let next = vectors::numbers(text, op.next, &mut args[..n]);
-    print(fresh(op.value, &args));
-    next
+    let step = match numbers.number() {
+        END => return None,
+        GET => {
+            let [bytes, at] = indexes::<2>(numbers);
+            Step::Get { bytes, at }
+        }
+        PUT => {
+            let [bytes, at] = indexes::<2>(numbers);
+            let x = numbers.number();
+            Step::Put { bytes, at, x }
+        }
+        PUT_WORDS => {
+            let [at, n] = indexes::<2>(numbers);
+            let words = numbers.numbers::<WORDS>();
+            Step::PutWords { at, n, words }
+        }
+        COPY => {
+            let [at, from, n] = indexes::<3>(numbers);
+            Step::Copy { at, from, n }
+        }
+        CLEAR => {
+            let [at, n] = indexes::<2>(numbers);
+            Step::Clear { at, n }
+        }
+        SHIFT_UP => {
+            let [from, to, by] = indexes::<3>(numbers);
+            Step::ShiftUp { from, to, by }
+        }
+        SHIFT_DOWN => {
+            let [from, to, by] = indexes::<3>(numbers);
+            Step::ShiftDown { from, to, by }
+        }
+        SAME => {
+            let [n, m, at] = indexes::<3>(numbers);
+            let x = numbers.number();
+            Step::Same { n, m, at, x }
+        }
+        IS_ZERO => {
+            let [from, n, at] = indexes::<3>(numbers);
+            let x = numbers.number();
+            Step::IsZero { from, n, at, x }
+        }
+        RANKS_BELOW => {
+            let [n, m, at] = indexes::<3>(numbers);
+            let x = numbers.number();
+            Step::RanksBelow { n, m, at, x }
+        }
+        _ => Step::Unknown,
+    };
+    Some(step)
 }
 
-// How many arguments a step has.
-fn arguments(op: u64) -> usize
-    ensures { result ≤ 10 }
+// The next N numbers, as indexes and counts of bytes.
+fn indexes<const N: usize>(numbers: &mut Numbers<'_>) -> [usize; N]
+    ensures { length numbers.new ≤ length numbers.old }
 {
-    match op {
-        GET | CLEAR => 2,
-        PUT | COPY | SHIFT_UP | SHIFT_DOWN => 3,
-        SAME | IS_ZERO | RANKS_BELOW => 4,
-        PUT_WORDS => MOST_ARGUMENTS,
-        _ => 0,
+    let mut out = [0; N];
+    for index in out.iter_mut() {
+        *index = numbers.number() as usize;
+    }
+    out
+}
+
+// What a step tells. It and what it calls answer None where the call is forbidden.
+fn run(step: Step) -> Option<u64> {
+    match step {
+        Step::Get { bytes, at } => get(&pattern(BUFFER_STEP), bytes, at),
+        Step::Same { n, m, at, x } => {
+            let w = changed(pattern(BUFFER_STEP), at, x)?;
+            let v = pattern(BUFFER_STEP);
+            Some(u64::from(words::same(v.get(..n)?, w.get(..m)?)))
+        }
+        Step::RanksBelow { n, m, at, x } => {
+            let w = changed(pattern(BUFFER_STEP), at, x)?;
+            let v = pattern(BUFFER_STEP);
+            Some(u64::from(words::ranks_below(v.get(..n)?, w.get(..m)?)))
+        }
+        Step::IsZero { from, n, at, x } => {
+            let v = changed([0; SIZE], at, x)?;
+            Some(u64::from(words::is_zero(v.get(from..)?.get(..n)?)))
+        }
+        _ => {
+            let mut v = pattern(BUFFER_STEP);
+            change(&mut v, step)?;
+            Some(vectors::checksum(&v))
+        }
     }
 }
 
-fn print(outcome: StepResult) {
-    match outcome {
-        StepResult::Number(n) => {
-            io::print_hex(STDOUT_FILENO, n, 1);
-            io::write_all(STDOUT_FILENO, b"\n");
-        }
-        StepResult::Outside => {
-            io::write_all(STDOUT_FILENO, b"outside\n");
-        }
+// A step that changes v.
+fn change(v: &mut [u8], step: Step) -> Option<()> {
+    match step {
+        Step::Put { bytes, at, x } => put(v, bytes, at, x),
+        Step::PutWords { at, n, words } => put_words(v, at, words.get(..n)?),
+        Step::Copy { at, from, n } => copy(v, at, pattern(SOURCE_STEP).get(from..)?.get(..n)?),
+        Step::Clear { at, n } => clear(v, at, n),
+        Step::ShiftUp { from, to, by } => shift_up(v, from, to, by),
+        Step::ShiftDown { from, to, by } => shift_down(v, from, to, by),
+        _ => None,
     }
-}
-
-// A step on fresh buffers.
-fn fresh(op: u64, args: &[u64; MOST_ARGUMENTS]) -> StepResult {
-    let mut v = [0u8; SIZE];
-    fill(&mut v, BUFFER_STEP);
-    let mut w = [0u8; SIZE];
-    fill(&mut w, SOURCE_STEP);
-    run(&mut v, &mut w, op, args)
 }
 
 // Byte i is i * by + FIRST_BYTE, modulo 256.
-fn fill(v: &mut [u8], by: u64)
-    requires { by < 256 }
-{
-    let mut byte = FIRST_BYTE;
-    let mut i = 0;
-    while i < v.len() {
-        v[i] = byte as u8;
-        byte = (byte + by) % 256;
-        i += 1;
+fn pattern(by: u8) -> [u8; SIZE] {
+    let mut v = [0; SIZE];
+    let mut next = FIRST_BYTE;
+    for byte in v.iter_mut() {
+        *byte = next;
+        next = next.wrapping_add(by);
     }
+    v
 }
 
-fn run(v: &mut [u8], w: &mut [u8], op: u64, args: &[u64; MOST_ARGUMENTS]) -> StepResult {
-    let a = args[0] as usize;
-    let b = args[1] as usize;
-    let c = args[2] as usize;
-    match op {
-        GET => get(v, a, b),
-        SAME | RANKS_BELOW => compared(v, a, w, b, c, args[3], op),
-        IS_ZERO => is_zero(v, a, b, c, args[3]),
-        _ => {
-            if change(v, w, op, args) {
-                return StepResult::Number(vectors::checksum(v));
-            }
-            StepResult::Outside
-        }
-    }
-}
-
-// A step that changes v. It and what it calls answer whether the step is allowed.
-fn change(v: &mut [u8], w: &[u8], op: u64, args: &[u64; MOST_ARGUMENTS]) -> bool {
-    let a = args[0] as usize;
-    let b = args[1] as usize;
-    let c = args[2] as usize;
-    match op {
-        PUT => put(v, a, b, args[2]),
-        PUT_WORDS => put_words(v, a, b, args),
-        COPY => copy(v, a, w, b, c),
-        CLEAR => clear(v, a, b),
-        SHIFT_UP => shift_up(v, a, b, c),
-        SHIFT_DOWN => shift_down(v, a, b, c),
-        _ => false,
-    }
+// Bytes where the one at index at is x.
+fn changed(mut v: [u8; SIZE], at: usize, x: u64) -> Option<[u8; SIZE]> {
+    put(&mut v, 1, at, x)?;
+    Some(v)
 }
 
 // The number of so many bytes at index at.
-fn get(v: &[u8], bytes: usize, at: usize) -> StepResult {
-    if v.len() < sum(at, bytes) {
-        return StepResult::Outside;
+fn get(v: &[u8], bytes: usize, at: usize) -> Option<u64> {
+    if !fits(v, at, bytes) {
+        return None;
     }
     match bytes {
-        1 => StepResult::Number(words::get8(v, at)),
-        2 => StepResult::Number(words::get16(v, at)),
-        4 => StepResult::Number(words::get32(v, at)),
-        8 => StepResult::Number(words::get64(v, at)),
-        _ => StepResult::Outside,
+        1 => Some(words::get::<1>(v, at)),
+        2 => Some(words::get::<2>(v, at)),
+        4 => Some(words::get::<4>(v, at)),
+        8 => Some(words::get::<8>(v, at)),
+        _ => None,
     }
 }
 
 // x as a number of so many bytes at index at.
-fn put(v: &mut [u8], bytes: usize, at: usize, x: u64) -> bool {
-    if v.len() < sum(at, bytes) {
-        return false;
+fn put(v: &mut [u8], bytes: usize, at: usize, x: u64) -> Option<()> {
+    if !fits(v, at, bytes) {
+        return None;
     }
     match bytes {
-        1 => {
-            words::put8(v, at, x);
-            true
-        }
-        2 => {
-            words::put16(v, at, x);
-            true
-        }
-        4 => {
-            words::put32(v, at, x);
-            true
-        }
-        8 => {
-            words::put64(v, at, x);
-            true
-        }
-        _ => false,
+        1 => Some(words::put::<1>(v, at, x)),
+        2 => Some(words::put::<2>(v, at, x)),
+        4 => Some(words::put::<4>(v, at, x)),
+        8 => Some(words::put::<8>(v, at, x)),
+        _ => None,
     }
 }
 
-// The first n words of the arguments.
-fn put_words(v: &mut [u8], at: usize, n: usize, args: &[u64]) -> bool {
-    if args.len() < sum(FIRST_WORD, n) {
-        return false;
-    }
-    if v.len() < sum(at, WORD * n) {
-        return false;
-    }
-    words::put_words(v, at, &args[FIRST_WORD..FIRST_WORD + n]);
-    true
+fn put_words(v: &mut [u8], at: usize, words: &[u64]) -> Option<()> {
+    fits(v, at, WORD * words.len()).then(|| words::put_words(v, at, words))
 }
 
-fn copy(v: &mut [u8], at: usize, source: &[u8], from: usize, n: usize) -> bool {
-    if v.len() < sum(at, n) {
-        return false;
-    }
-    if source.len() < sum(from, n) {
-        return false;
-    }
-    words::copy(v, at, &source[from..from + n]);
-    true
+fn copy(v: &mut [u8], at: usize, source: &[u8]) -> Option<()> {
+    fits(v, at, source.len()).then(|| words::copy(v, at, source))
 }
 
-fn clear(v: &mut [u8], at: usize, n: usize) -> bool {
-    if v.len() < sum(at, n) {
-        return false;
-    }
-    words::clear(v, at, n);
-    true
+fn clear(v: &mut [u8], at: usize, n: usize) -> Option<()> {
+    fits(v, at, n).then(|| words::clear(v, at, n))
 }
 
-fn shift_up(v: &mut [u8], from: usize, to: usize, by: usize) -> bool {
-    if to < from {
-        return false;
-    }
-    if v.len() < sum(to, by) {
-        return false;
-    }
-    words::shift_up(v, from, to, by);
-    true
+fn shift_up(v: &mut [u8], from: usize, to: usize, by: usize) -> Option<()> {
+    let allowed = from <= to && fits(v, to, by);
+    allowed.then(|| words::shift_up(v, from, to, by))
 }
 
-fn shift_down(v: &mut [u8], from: usize, to: usize, by: usize) -> bool {
-    if from < by {
-        return false;
-    }
-    if to < from {
-        return false;
-    }
-    if v.len() < to {
-        return false;
-    }
-    words::shift_down(v, from, to, by);
-    true
+fn shift_down(v: &mut [u8], from: usize, to: usize, by: usize) -> Option<()> {
+    let allowed = by <= from && from <= to && to <= v.len();
+    allowed.then(|| words::shift_down(v, from, to, by))
 }
 
-// The first n bytes of v next to the first m of the same pattern in w, where the byte at index at is x: whether they are the same, or the
-// former rank below the latter.
-fn compared(v: &[u8], n: usize, w: &mut [u8], m: usize, at: usize, x: u64, op: u64) -> StepResult {
-    if v.len() < n {
-        return StepResult::Outside;
-    }
-    if w.len() < m {
-        return StepResult::Outside;
-    }
-    if w.len() <= at {
-        return StepResult::Outside;
-    }
-    fill(w, BUFFER_STEP);
-    words::put8(w, at, x);
-    if op == SAME {
-        return said(words::same(&v[..n], &w[..m]));
-    }
-    said(words::ranks_below(&v[..n], &w[..m]))
-}
-
-// n bytes of zeros, where the byte at index at is x.
-fn is_zero(v: &mut [u8], from: usize, n: usize, at: usize, x: u64) -> StepResult {
-    if v.len() < sum(from, n) {
-        return StepResult::Outside;
-    }
-    if v.len() <= at {
-        return StepResult::Outside;
-    }
-    let whole = v.len();
-    words::clear(v, 0, whole);
-    words::put8(v, at, x);
-    said(words::is_zero(&v[from..from + n]))
-}
-
-fn said(yes: bool) -> StepResult {
-    if yes {
-        StepResult::Number(1)
-    } else {
-        StepResult::Number(0)
-    }
-}
-
-// The sum, or the greatest number where it does not fit.
-fn sum(a: usize, b: usize) -> usize
-    ensures { result ≡ min (a + b) 18446744073709551615 }
+// Whether n bytes lie in v from index at on.
+fn fits(v: &[u8], at: usize, n: usize) -> bool
+    ensures { result ≡ true → at + n ≤ length v.now }
 {
-    if usize::MAX - a < b {
-        return usize::MAX;
-    }
-    a + b
+    at.checked_add(n).is_some_and(|end| end <= v.len())
 }

@@ -1,12 +1,5 @@
-use Prim.Native.Nat.{◌-◌, ◌≤◌}
-use mathlib.Core.Path.{◌≡◌}
-use lib.ListN.{length}
+use Rattle.std.proofs.Common.{length}
 use Rattle.file_vectors.proofs.replay.Given as goal
 
-abbrev pub invariant-loop-at : goal.invariant-loop-at
-invariant-loop-at l =
-    (l.at ≤ length l.text) × (length l.memory ≡ length l.initial.memory) × (length l.buffer ≡ length l.initial.buffer)
-
-abbrev pub decreases-loop-at : goal.decreases-loop-at
-decreases-loop-at l =
-    length l.text - l.at
+abbrev pub decreases-loop-numbers : goal.decreases-loop-numbers
+decreases-loop-numbers g l = length l.numbers

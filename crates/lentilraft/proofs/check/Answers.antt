@@ -1,16 +1,17 @@
+use Rattle.std.specs.Prelude.{Ok, Err}
 use mathlib.Core.Path.{refl}
-use Rattle.soundness.proofs.Checked.{not_opened, opened-sound}
-use Rattle.types.specs.declared.Answer.TheVariants.{Done, Refused}
+use Rattle.soundness.proofs.Checked.{opened-sound}
 use Rattle.lentilraft.specs.Door.{check}
-use Rattle.lentilraft.proofs.Door.{let-in, shut}
+use Rattle.lentilraft.proofs.Door.{exit-shut, let-in, shut}
 use Rattle.lentilraft.proofs.check.Goals as goal
 
-pub returns-in-At : goal.returns-in-At
+pub returns-in_err-open : goal.returns-in_err-open
 unfolding check
-returns-in-At c =
-    let-in c.args.volume.now Refused (λ v. Done 0) (opened-sound c.args.volume.now c.open.ensures c.in-At.in-At-own.keys1) refl
+returns-in_err-open c =
+    let n = exit-shut c.args.volume.now c.from_residual.result c.in_err-open.ensures c.from_residual.ensures.1 in
+    rw n.0 (shut c.args.volume.now Err (λ v. Ok 0) n.1)
 
-pub returns-in-Nowhere : goal.returns-in-Nowhere
+pub returns : goal.returns
 unfolding check
-returns-in-Nowhere c =
-    shut c.args.volume.now Refused (λ v. Done 0) (not_opened c.args.volume.now c.open.ensures c.in-Nowhere.in-Nowhere-own.keys2)
+returns c =
+    let-in c.args.volume.now Err (λ v. Ok 0) (opened-sound c.args.volume.now c.in_ok-open.ensures) refl

@@ -1,11 +1,8 @@
-use Prim.Native.Nat.{◌-◌, ◌≤◌}
-use lib.ListN.{length}
+use Rattle.std.proofs.Common.{◌+◌, ◌≤◌, length}
 use Rattle.path_vectors.proofs.replay.Given as goal
 
-abbrev pub invariant-loop-totals : goal.invariant-loop-totals
-invariant-loop-totals l =
-    (l.totals.next ≤ length l.text) × (l.totals.paths ≤ l.totals.next) × (l.totals.refused ≤ l.totals.paths)
+abbrev pub invariant-loop-numbers : goal.invariant-loop-numbers
+invariant-loop-numbers g l = (l.paths + length l.numbers ≤ length l.text) × (l.refused ≤ l.paths)
 
-abbrev pub decreases-loop-totals : goal.decreases-loop-totals
-decreases-loop-totals l =
-    length l.text - l.totals.next
+abbrev pub decreases-loop-numbers : goal.decreases-loop-numbers
+decreases-loop-numbers g l = length l.numbers

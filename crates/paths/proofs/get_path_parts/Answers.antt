@@ -1,38 +1,40 @@
 use borrow.Author.Rules.{rules}
+use borrow.Author.Tests.{tests}
 use native.Mathlib.Omega.{arith}
-use mathlib.Core.Path.{ap}
-use Rattle.paths.specs.Pieces.{parts_after}
-use Rattle.paths.proofs.Walk.{cut-long, cut-led, walk_start, walk_turn, walk-barred, walk-open, walk-shut}
+use mathlib.Core.Path.{◌≡◌}
+use Rattle.std.specs.Prelude.{Err}
+use Rattle.paths.proofs.Walk.{walk_start, walk-within, walk-barred, walk-open, walk-shut}
 use Rattle.paths.proofs.get_path_parts.Goals as goal
 
-pub returns-then-path-gt-MOST_PATH : goal.returns-then-path-gt-MOST_PATH
-returns-then-path-gt-MOST_PATH c =
-    cut-long c.args.path.now _ _ c.if-path-gt-MOST_PATH.true
+pub loop-piece-init : goal.loop-piece-init
+loop-piece-init c =
+    let same = c.into_iter-piece-iterator.ensures.into_iter_gives in
+    let split = c.split-piece-items.ensures in
+    record {
+      short = c.if-path-gt-MOST_PATH.false;
+      half = omega arith;
+      left = rw same (walk_start c.args.path.now _ _ c.if-path-gt-MOST_PATH.false c.starts_with.ensures.value _ c.if-starts_with.false split.rest split.done split.closure (λ x b q k. search (rules, tests)));
+    }
 
-pub returns-then-starts_with_slash : goal.returns-then-starts_with_slash
-returns-then-starts_with_slash c =
-    cut-led c.args.path.now _ _ (omega arith) c.starts_with_slash.ensures c.if-starts_with_slash.true
+pub place_piece-requires : goal.place_piece-requires
+place_piece-requires c =
+    let within = walk-within c.loop-piece.invariant.left c.in-Some.is c.next.ensures.steps in
+    (c.loop-piece.invariant.half, omega arith)
 
-pub loop-at-init : goal.loop-at-init
-loop-at-init c =
-    (search rules, omega arith, search rules, walk_start c.args.path.now _ _ (omega arith) c.starts_with_slash.ensures c.if-starts_with_slash.false)
+pub returns-in_err-parts : goal.returns-in_err-parts
+returns-in_err-parts c =
+    let same : c.from_residual.result ≡ Err c.in_err-parts.field-0.0 = search rules in
+    rw same (walk-barred c.loop-piece.invariant.left c.in-Some.is c.next.ensures.steps c.place_piece.ensures.0 c.in_err-parts.was)
 
-pub place_piece-turn-requires : goal.place_piece-turn-requires
-place_piece-turn-requires c =
-    (search rules, omega arith, c.read_piece-piece.ensures.1.few)
+pub overflow_add-at-in-loop-piece : goal.overflow_add-at-in-loop-piece
+overflow_add-at-in-loop-piece c =
+    let within = walk-within c.loop-piece.invariant.left c.in-Some.is c.next.ensures.steps in
+    omega arith
 
-pub returns-in_default : goal.returns-in_default
-returns-in_default c =
-    walk-barred c.args.path.now _ _ _ _ _ _ _ c.loop-at.invariant.3 c.read_piece-piece.ensures.0 c.read_piece-piece.ensures.1 c.place_piece-turn.ensures.0 c.in_default.is
+pub returns-then-parts : goal.returns-then-parts
+returns-then-parts c =
+    walk-open c.loop-piece.invariant.left c.in-None.is c.next.ensures.steps c.if-parts.true
 
-pub loop-at-preserved : goal.loop-at-preserved
-loop-at-preserved c =
-    (omega arith, c.loop-at.invariant.1, omega (arith, ap parts_after c.in-Next.is), walk_turn c.args.path.now _ _ _ _ _ _ _ c.loop-at.invariant.3 c.read_piece-piece.ensures.0 c.read_piece-piece.ensures.1 c.place_piece-turn.ensures.0 c.in-Next.is)
-
-pub returns-then-opened : goal.returns-then-opened
-returns-then-opened c =
-    walk-open c.args.path.now _ _ _ _ _ c.loop-at.invariant.3 (omega arith) c.if-opened.true
-
-pub returns-else-opened : goal.returns-else-opened
-returns-else-opened c =
-    walk-shut c.args.path.now _ _ _ _ _ c.loop-at.invariant.3 (omega arith) c.if-opened.false
+pub returns-else-parts : goal.returns-else-parts
+returns-else-parts c =
+    walk-shut c.loop-piece.invariant.left c.in-None.is c.next.ensures.steps c.if-parts.false

@@ -1,10 +1,8 @@
 use Rattle.rim.proofs.OneGiven.{gives-name, gives-no-name}
 use Rattle.rim.proofs.lentilraft_next_entry.Goals as goal
 
-pub returns-in-At : goal.returns-in-At
-returns-in-At c =
-    gives-name c.next_name.ensures c.in-At.is
+pub returns-in-Ok : goal.returns-in-Ok
+returns-in-Ok c = gives-name c.in-Ok.ensures
 
-pub returns-in-Refused : goal.returns-in-Refused
-returns-in-Refused c =
-    gives-no-name c.next_name.ensures c.in-Refused.is c.error_number.ensures.0
+pub returns-in-Err : goal.returns-in-Err
+returns-in-Err c = gives-no-name c.in-Err.ensures c.from.ensures.0

@@ -1,18 +1,14 @@
 use Rattle.rim.proofs.OneGiven.{gives_found, gives-absent, gives-stopped, gives-no-search}
 use Rattle.rim.proofs.lentilraft_search.Goals as goal
 
-pub returns-in-Found : goal.returns-in-Found
-returns-in-Found c =
-    gives_found c.search.ensures c.in-Found.is
+pub returns-in-Ok-Found : goal.returns-in-Ok-Found
+returns-in-Ok-Found c = gives_found (rw c.in-Ok-Found.field-0-is at c.in-Ok-Found.ensures)
 
-pub returns-in-Absent : goal.returns-in-Absent
-returns-in-Absent c =
-    gives-absent c.search.ensures c.in-Absent.is
+pub returns-in-Ok-Absent : goal.returns-in-Ok-Absent
+returns-in-Ok-Absent c = gives-absent (rw c.in-Ok-Absent.field-0-is at c.in-Ok-Absent.ensures)
 
-pub returns-in-Stopped : goal.returns-in-Stopped
-returns-in-Stopped c =
-    gives-stopped c.search.ensures c.in-Stopped.is
+pub returns-in-Ok-Stopped : goal.returns-in-Ok-Stopped
+returns-in-Ok-Stopped c = gives-stopped (rw c.in-Ok-Stopped.field-0-is at c.in-Ok-Stopped.ensures)
 
-pub returns-in-Refused : goal.returns-in-Refused
-returns-in-Refused c =
-    gives-no-search c.search.ensures c.in-Refused.is c.error_number.ensures.0
+pub returns-in-Err : goal.returns-in-Err
+returns-in-Err c = gives-no-search c.in-Err.ensures c.from.ensures.0

@@ -7,10 +7,14 @@ use Rattle.lentilraft.proofs.Door.{into-open}
 use Rattle.rim.proofs.OneGiven.{gives-count}
 use Rattle.unchecked.proofs.unchecked_read.Goals as goal
 
-pub read-answer-requires : goal.read-answer-requires
+pub invariant_of-tables : goal.invariant_of-tables
 unfolding Bytes
+invariant_of-tables c =
+    framed-ready c.args.volume.now (λ i. omega (arith, c.type_inv.volume i)) c.requires.framed c.read_layout.ensures
+
+pub read-answer-requires : goal.read-answer-requires
 read-answer-requires c =
-    (framed-ready c.args.volume.now (λ i. omega (arith, c.type_inv.volume i)) c.requires.framed c.read_layout-layout.ensures, c.requires.good)
+    c.requires.good
 
 pub returns : goal.returns
 unfolding read

@@ -1,4 +1,5 @@
 use borrow.Author.Rules.{rules}
+use mathlib.Core.Path.{refl}
 use native.Mathlib.Omega.{arith}
 use Rattle.volume.specs.Volume.{shown}
 use Rattle.directories.proofs.EntrySteps.{parent-size, entry-asked, size-asked, entry-added}
@@ -18,4 +19,4 @@ change_node-requires c =
 
 pub returns : goal.returns
 returns c =
-    entry-added c.args.volume.now c.args.layout c.requires.0 c.requires.1 c.args.directory.row.node c.args.name.now c.args.node (search rules) c.requires.2 c.requires.3 c.requires.4 c.insert_entry.ensures c.with_size.ensures c.change_node.ensures
+    entry-added c.args.volume.now c.args.layout c.requires.0 c.requires.1 c.args.directory.row.node c.args.name.now c.args.node (search rules) c.requires.2 c.requires.3 c.requires.4 c.insert_entry.ensures refl c.change_node.ensures

@@ -1,29 +1,30 @@
 use mathlib.Core.Path.{refl}
-use Rattle.volume.specs.Volume.{shown}
 use Rattle.words.proofs.Rules.{told}
+use Rattle.types.proofs.Results.{or-refused, exit-is}
 use Rattle.directories.proofs.ParentRows.{parent-missing, parent-there, parent-unlinked, parent-file, parent-misnamed, parent-at}
 use Rattle.directories.proofs.entering.find_parent.Goals as goal
 
-pub returns-in_default : goal.returns-in_default
-returns-in_default c =
-    parent-missing c.args.parent c.args.name.now (shown c.args.volume.now).names.nodes _ c.in_default.in_default-own.keys2 c.find_node.ensures
+pub returns-in_err-place : goal.returns-in_err-place
+returns-in_err-place c =
+    let n = or-refused _ _ c.in_err-place.ensures.value in
+    rw (exit-is _ c.from_residual.ensures.1, n.1) (parent-missing c.args.parent c.args.name.now c.args.tables.now.names.nodes n.0 c.find_node.ensures)
 
 pub node_row-row-requires : goal.node_row-row-requires
 node_row-row-requires c =
-    (c.requires.0, parent-there c.args.parent c.args.name.now (shown c.args.volume.now).names.nodes c.in-At.is c.find_node.ensures)
+    parent-there c.args.parent c.args.name.now c.args.tables.now.names.nodes c.in_ok-place.ensures.ok_part c.find_node.ensures
 
 pub returns-then-row-eq0 : goal.returns-then-row-eq0
 returns-then-row-eq0 c =
-    parent-unlinked c.args.parent c.args.name.now (shown c.args.volume.now).names.nodes c.in-At.is c.find_node.ensures c.node_row-row.ensures c.if-row-eq0.true
+    parent-unlinked c.args.parent c.args.name.now c.args.tables.now.names.nodes c.in_ok-place.ensures.ok_part c.find_node.ensures c.node_row-row.ensures c.if-row-eq0.true
 
 pub returns-then-not-is_directory : goal.returns-then-not-is_directory
 returns-then-not-is_directory c =
-    parent-file c.args.parent c.args.name.now (shown c.args.volume.now).names.nodes c.in-At.is c.find_node.ensures c.node_row-row.ensures c.if-row-eq0.false c.is_directory.ensures (told refl c.if-not-is_directory.true)
+    parent-file c.args.parent c.args.name.now c.args.tables.now.names.nodes c.in_ok-place.ensures.ok_part c.find_node.ensures c.node_row-row.ensures c.if-row-eq0.false c.is_directory.ensures (told refl c.if-not-is_directory.true)
 
 pub returns-then-not-name_allowed : goal.returns-then-not-name_allowed
 returns-then-not-name_allowed c =
-    parent-misnamed c.args.parent c.args.name.now (shown c.args.volume.now).names.nodes c.in-At.is c.find_node.ensures c.node_row-row.ensures c.if-row-eq0.false c.is_directory.ensures (told refl c.if-not-is_directory.false) c.name_allowed.ensures (told refl c.if-not-name_allowed.true)
+    parent-misnamed c.args.parent c.args.name.now c.args.tables.now.names.nodes c.in_ok-place.ensures.ok_part c.find_node.ensures c.node_row-row.ensures c.if-row-eq0.false c.is_directory.ensures (told refl c.if-not-is_directory.false) c.name_allowed.ensures (told refl c.if-not-name_allowed.true)
 
 pub returns : goal.returns
 returns c =
-    parent-at c.args.parent c.args.name.now (shown c.args.volume.now).names.nodes c.in-At.is c.find_node.ensures c.node_row-row.ensures c.if-row-eq0.false c.is_directory.ensures (told refl c.if-not-is_directory.false) c.name_allowed.ensures (told refl c.if-not-name_allowed.false)
+    parent-at c.args.parent c.args.name.now c.args.tables.now.names.nodes c.in_ok-place.ensures.ok_part c.find_node.ensures c.node_row-row.ensures c.if-row-eq0.false c.is_directory.ensures (told refl c.if-not-is_directory.false) c.name_allowed.ensures (told refl c.if-not-name_allowed.false)

@@ -4,12 +4,12 @@ use Rattle.directories.proofs.finding.part_at.Goals as goal
 
 pub overflow_add-result : goal.overflow_add-result
 overflow_add-result c =
-    omega (arith, c.wide-at.ensures, c.wide-long.ensures, c.requires.1, c.ranges)
+    omega (arith, c.from-at.ensures, c.from-long.ensures, c.requires.1, c.ranges)
 
 pub slice_bounds-result-end : goal.slice_bounds-result-end
 slice_bounds-result-end c =
-    omega (arith, c.wide-at.ensures, c.wide-long.ensures, c.requires.1)
+    omega (arith, c.from-at.ensures, c.from-long.ensures, c.requires.1)
 
 pub returns : goal.returns
 returns c =
-    part-lent c.args.path.now c.wide-at.result c.wide-long.result c.wide-at.ensures c.wide-long.ensures
+    part-lent c.args.path.now c.from-at.result c.from-long.result c.from-at.ensures c.from-long.ensures

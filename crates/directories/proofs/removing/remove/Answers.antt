@@ -1,17 +1,19 @@
+use Rattle.types.proofs.Results.{or-refused, exit-is}
 use Rattle.directories.proofs.RemoveSteps.{remove-missing, row-asked, remove-busy, chunks-asked, out-asked, remove-done}
 use Rattle.directories.proofs.removing.remove.Goals as goal
 
-pub returns-in_default : goal.returns-in_default
-returns-in_default c =
-    remove-missing c.args.node c.args.volume.now c.args.layout c.requires.0 c.requires.1 _ c.in_default.in_default-own.keys2 c.find_node.ensures
+pub returns-in_err-place : goal.returns-in_err-place
+returns-in_err-place c =
+    let n = or-refused _ _ c.in_err-place.ensures.value in
+    rw (exit-is _ c.from_residual.ensures.1, n.1) (remove-missing c.args.node c.args.volume.now c.args.layout c.requires.0 c.requires.1 n.0 c.find_node.ensures)
 
 pub node_row-row-requires : goal.node_row-row-requires
 node_row-row-requires c =
-    row-asked c.args.node c.args.volume.now c.args.layout c.requires.0 c.requires.1 c.in-At.is c.find_node.ensures
+    row-asked c.args.node c.args.volume.now c.args.layout c.requires.0 c.requires.1 c.in_ok-place.ensures.ok_part c.find_node.ensures
 
 pub returns-then-row-gt0 : goal.returns-then-row-gt0
 returns-then-row-gt0 c =
-    remove-busy c.args.node c.args.volume.now c.args.layout c.requires.0 c.requires.1 c.in-At.is c.find_node.ensures c.node_row-row.ensures c.if-row-gt0.true
+    remove-busy c.args.node c.args.volume.now c.args.layout c.requires.0 c.requires.1 c.in_ok-place.ensures.ok_part c.find_node.ensures c.node_row-row.ensures c.if-row-gt0.true
 
 pub cut_rows-requires : goal.cut_rows-requires
 cut_rows-requires c =
@@ -19,8 +21,8 @@ cut_rows-requires c =
 
 pub remove_node-requires : goal.remove_node-requires
 remove_node-requires c =
-    out-asked c.args.node c.args.volume.now c.args.layout c.requires.0 c.requires.1 c.in-At.is c.find_node.ensures c.node_row-row.ensures c.if-row-gt0.false c.first_chunk-first.ensures.0 c.cut_rows.ensures
+    out-asked c.args.node c.args.volume.now c.args.layout c.requires.0 c.requires.1 c.in_ok-place.ensures.ok_part c.find_node.ensures c.node_row-row.ensures c.if-row-gt0.false c.first_chunk-first.ensures.0 c.cut_rows.ensures
 
 pub returns : goal.returns
 returns c =
-    remove-done c.args.node c.args.volume.now c.args.layout c.requires.0 c.requires.1 c.in-At.is c.find_node.ensures c.node_row-row.ensures c.if-row-gt0.false c.first_chunk-first.ensures.0 c.cut_rows.ensures c.remove_node.ensures
+    remove-done c.args.node c.args.volume.now c.args.layout c.requires.0 c.requires.1 c.in_ok-place.ensures.ok_part c.find_node.ensures c.node_row-row.ensures c.if-row-gt0.false c.first_chunk-first.ensures.0 c.cut_rows.ensures c.remove_node.ensures

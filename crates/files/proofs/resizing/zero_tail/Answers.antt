@@ -9,7 +9,7 @@ returns-then-not-is_row c =
 
 pub chunk_row-chunk-requires : goal.chunk_row-chunk-requires
 chunk_row-chunk-requires c =
-    (c.requires.0, tail-below c.args.node c.args.end (shown c.args.volume.now).store c.requires.1 c.requires.3.0 c.requires.2 c.is_row.ensures (c.if-not-is_row.false))
+    tail-below c.args.node c.args.end (shown c.args.volume.now).store c.requires.1 c.requires.3.0 c.requires.2 c.is_row.ensures c.if-not-is_row.false
 
 pub clear_rest-requires : goal.clear_rest-requires
 clear_rest-requires c =

@@ -1,14 +1,7 @@
-use mathlib.Core.Path.{◌≡◌}
-use Prim.Native.Nat.{◌-◌}
-use lib.ListN.{length}
 use Rattle.files.specs.Gap.{closed}
 use Rattle.files.proofs.WriteLoop.{WroteTo}
 use Rattle.files.proofs.writing.write_chunks_v2.Given as goal
 
 abbrev pub invariant-loop-i : goal.invariant-loop-i
 invariant-loop-i l =
-    WroteTo (closed l.place l.initial.gap l.initial.volume) l.layout l.span l.node l.offset l.bytes l.first l.count l.place l.volume l.i l.gap × (length l.volume ≡ length l.initial.volume)
-
-abbrev pub decreases-loop-i : goal.decreases-loop-i
-decreases-loop-i l =
-    l.count - l.i
+    WroteTo (closed l.place l.initial.gap l.initial.volume) l.layout l.span l.node l.offset l.bytes l.first l.count l.place l.volume l.i l.gap

@@ -1,23 +1,24 @@
 use native.Mathlib.Omega.{arith}
 use Rattle.words.specs.Bytes.{Bytes}
-use Rattle.soundness.proofs.Checked.{not_opened, opened-sound, opened-good, opened-ready}
+use Rattle.soundness.proofs.Checked.{opened-sound, opened-good, opened-ready}
 use Rattle.volume.specs.Steps.{name_step}
 use Rattle.names.specs.Entering as Entering
 use Rattle.lentilraft.specs.Door.{link}
-use Rattle.lentilraft.proofs.Door.{door-open, door-shut}
+use Rattle.lentilraft.proofs.Door.{exit-shut, door-open, door-shut}
 use Rattle.lentilraft.proofs.naming.link.Goals as goal
 
-pub returns-in_default : goal.returns-in_default
+pub returns-in_err-layout : goal.returns-in_err-layout
 unfolding link
-returns-in_default c =
-    door-shut c.args.volume.now (name_step (Entering.link c.args.parent c.args.name.now c.args.target)) (not_opened c.args.volume.now c.open.ensures c.in_default.in_default-own.keys2)
+returns-in_err-layout c =
+    let n = exit-shut c.args.volume.now c.from_residual.result c.in_err-layout.ensures c.from_residual.ensures.1 in
+    rw n.0 (door-shut c.args.volume.now (name_step (Entering.link c.args.parent c.args.name.now c.args.target)) n.1)
 
 pub link-requires : goal.link-requires
 unfolding Bytes
 link-requires c =
-    (opened-ready c.args.volume.now c.open.ensures c.in-At.is (λ i. omega (arith, c.slice_known-1.given i)), opened-good c.args.volume.now c.open.ensures c.in-At.in-At-own.keys1)
+    (opened-ready c.args.volume.now c.in_ok-layout.ensures (λ i. omega (arith, c.slice_known-1.given i)), opened-good c.args.volume.now c.in_ok-layout.ensures)
 
 pub returns : goal.returns
 unfolding link
 returns c =
-    door-open c.args.volume.now (name_step (Entering.link c.args.parent c.args.name.now c.args.target)) (opened-sound c.args.volume.now c.open.ensures c.in-At.in-At-own.keys1) c.link.ensures
+    door-open c.args.volume.now (name_step (Entering.link c.args.parent c.args.name.now c.args.target)) (opened-sound c.args.volume.now c.in_ok-layout.ensures) c.link.ensures

@@ -1,9 +1,9 @@
-use native.Mathlib.Omega.{arith}
+use Rattle.std.proofs.Common.{arith}
 use Rattle.words.specs.Bytes.{Bytes}
 use Rattle.soundness.proofs.Checked.{opened-ready}
 use Rattle.sequence_vectors.proofs.showing.show.Goals as goal
 
-pub show_nodes-requires : goal.show_nodes-requires
+pub invariant_of-tables : goal.invariant_of-tables
 unfolding Bytes
-show_nodes-requires c =
-    opened-ready c.args.volume.now c.open.ensures c.in-At.is (λ i. omega (arith, c.type_inv.volume i))
+invariant_of-tables g c =
+    opened-ready c.args.volume.now c.in-Ok.ensures (λ i. omega (arith, c.type_inv.volume i))

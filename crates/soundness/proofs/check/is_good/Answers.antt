@@ -1,34 +1,21 @@
+use mathlib.Core.Path.{sym, ◌∙◌}
+use mathlib.Core.Bool.{false≢true}
 use native.Mathlib.Omega.{arith}
-use Rattle.words.proofs.Rules.{told, stop, go_on, says-true}
-use Rattle.volume.specs.Volume.{shown}
-use Rattle.tables.proofs.LentAllocator.{framed}
-use Rattle.soundness.specs.Checked.{good}
-use Rattle.soundness.proofs.Checked.{says-named, says-stored, room-there}
+use Rattle.words.proofs.Rules.{told, says-true}
+use Rattle.allocator.proofs.Sizes.{accepted-bounds}
+use Rattle.tables.proofs.ReadyVolume.{fits-of}
+use Rattle.soundness.proofs.Checked.{says-named, says-stored}
+use Rattle.soundness.proofs.check.is_good.Goals.{then-is_named, else-is_named}
 use Rattle.soundness.proofs.check.is_good.Goals as goal
 
-pub returns-then-not-is_named : goal.returns-then-not-is_named
-unfolding good
-returns-then-not-is_named c =
-    stop _ _ (told c.is_named.ensures c.if-not-is_named.true)
-
-pub is_stored-requires : goal.is_stored-requires
-is_stored-requires c =
-    (c.requires, c.chunk_size-span.ensures.0)
-
-pub returns-then-not-is_stored : goal.returns-then-not-is_stored
-unfolding good
-returns-then-not-is_stored c =
-    go_on _ _ (told c.is_named.ensures c.if-not-is_named.false) (stop _ _ (told c.is_stored.ensures c.if-not-is_stored.true))
-
 pub is_owned-requires : goal.is_owned-requires
-is_owned-requires c = (
-  c.requires,
-  says-true (says-named (shown c.args.volume.now).names) (told c.is_named.ensures c.if-not-is_named.false),
-  says-true (says-stored (shown c.args.volume.now).store (omega (arith, c.chunk_size-span.ensures)) (room-there c.args.volume.now (framed c.args.volume.now c.args.layout c.requires))) (told c.is_stored.ensures c.if-not-is_stored.false),
-  c.chunk_size-span.ensures.0,
-)
-
-pub returns : goal.returns
-unfolding good
-returns c =
-    go_on _ _ (told c.is_named.ensures c.if-not-is_named.false) (go_on _ _ (told c.is_stored.ensures c.if-not-is_stored.false) c.is_owned.ensures)
+is_owned-requires c =
+    let v = c.args.tables.now in
+    let f = (fits-of c.tables.invariant c.tables.view_is).store in
+    elim c.if-is_named.branch [
+      | then-is_named w ↦ (
+        says-true (says-named v.names) (told c.is_named.ensures w.if-is_named.true),
+        says-true (says-stored v.store (omega (arith, accepted-bounds v.store.allocator.chunk_size f.size)) f.chunk_room.1) (told w.is_stored.ensures (sym w.value-is ∙ c.if-is_stored.true)),
+      )
+      | else-is_named w ↦ absurd (false≢true (sym w.if-is_named.false ∙ sym w.value-is ∙ c.if-is_stored.true))
+    ]

@@ -1,59 +1,20 @@
-use mathlib.Core.Path.{sym, ◌∙◌}
+use borrow.Author.Rules.{rules}
 use native.Mathlib.Omega.{arith}
-use Rattle.volume.specs.Volume.{shown}
-use Rattle.tables.proofs.ReadyVolume.{rooms, count_entries}
-use Prim.Native.Nat.{◌+◌, ◌-◌, ◌/◌}
-use Rattle.soundness.proofs.NameOrder.{all-between, upper-half, lower-half, none_between}
+use Prim.Native.Nat.{ℕ, ◌<◌}
+use lib.ListN.{length}
+use Rattle.tables.proofs.ReadyVolume.{fits-of}
+use Rattle.soundness.specs.NameOrder.{row_at}
+use Rattle.soundness.proofs.NameOrder.{under, under-falls, place-split}
 use Rattle.soundness.proofs.names.seek_name.Goals as goal
 
-pub loop-low-init : goal.loop-low-init
-loop-low-init c =
-    all-between (shown c.args.volume.now).names.entries c.args.order.now c.args.i
-
-pub overflow_sub-middle : goal.overflow_sub-middle
-overflow_sub-middle c =
-    omega (arith, c.loop-low.invariant.bound.0)
-
-pub overflow_add-middle : goal.overflow_add-middle
-overflow_add-middle c =
-    omega (arith, c.loop-low.invariant.bound.1, c.requires.1, (rooms c.args.volume.now c.args.layout c.requires.0), (count_entries c.args.volume.now))
-
-pub offset_bounds-order-middle : goal.offset_bounds-order-middle
-offset_bounds-order-middle c =
-    omega (arith, c.loop-low.invariant.bound.1, c.requires.1, (rooms c.args.volume.now c.args.layout c.requires.0), (count_entries c.args.volume.now))
-
-pub bounds-order-middle : goal.bounds-order-middle
-bounds-order-middle c =
-    omega (arith, c.loop-low.invariant.bound.1, c.requires.1, (rooms c.args.volume.now c.args.layout c.requires.0), (count_entries c.args.volume.now))
-
-pub overflow_cast-order : goal.overflow_cast-order
-overflow_cast-order c =
-    omega (arith, (c.requires.2.rows (c.loop-low.low + (c.loop-low.high - c.loop-low.low) / 2) (omega (arith, c.loop-low.invariant.bound.1))), c.requires.1, (rooms c.args.volume.now c.args.layout c.requires.0), (count_entries c.args.volume.now))
-
-pub name_before-requires : goal.name_before-requires
-name_before-requires c =
-    (c.requires.0, omega (arith, c.requires.1, (c.requires.2.rows (c.loop-low.low + (c.loop-low.high - c.loop-low.low) / 2) (omega (arith, c.loop-low.invariant.bound.1)))), c.requires.1)
-
-pub overflow_add-low : goal.overflow_add-low
-overflow_add-low c =
-    omega (arith, c.loop-low.invariant.bound.1, c.requires.1, (rooms c.args.volume.now c.args.layout c.requires.0), (count_entries c.args.volume.now))
-
-pub loop-low-smaller-then-name_before : goal.loop-low-smaller-then-name_before
-loop-low-smaller-then-name_before c =
-    omega arith
-
-pub loop-low-preserved-then-name_before : goal.loop-low-preserved-then-name_before
-loop-low-preserved-then-name_before c =
-    upper-half (shown c.args.volume.now).names.entries c.args.order.now c.args.i c.requires.2 c.loop-low.low c.loop-low.high c.loop-low.invariant (c.loop-low.low + (c.loop-low.high - c.loop-low.low) / 2) (omega arith) (omega arith) (sym c.name_before.ensures ∙ c.if-name_before.true)
-
-pub loop-low-smaller : goal.loop-low-smaller
-loop-low-smaller c =
-    omega arith
-
-pub loop-low-preserved : goal.loop-low-preserved
-loop-low-preserved c =
-    lower-half (shown c.args.volume.now).names.entries c.args.order.now c.args.i c.requires.2 c.loop-low.low c.loop-low.high c.loop-low.invariant (c.loop-low.low + (c.loop-low.high - c.loop-low.low) / 2) (omega arith) (omega arith) (sym c.name_before.ensures ∙ c.if-name_before.false)
+pub seek-requires : goal.seek-requires
+seek-requires c =
+    let es = c.args.tables.now.names.entries in
+    let low : (k : ℕ) → k < c.args.i → k < 4096 = λ k h. omega (arith, h, c.requires.0, (fits-of c.tables.invariant c.tables.view_is).names) in
+    let row : (k : ℕ) → k < c.args.i → row_at c.args.order.now k < length es = λ k h. omega (arith, c.requires.0, c.requires.1.rows k h) in
+    record { asks = λ k h. let b : k < c.args.i = omega (arith, h) in search (rules, low k b, row k b, c.requires.0) }
 
 pub returns : goal.returns
 returns c =
-    none_between (shown c.args.volume.now).names.entries c.args.order.now c.args.i c.requires.2 c.loop-low.low c.loop-low.high c.loop-low.invariant (omega arith)
+    let es = c.args.tables.now.names.entries in
+    place-split es c.args.order.now c.args.i (c.seek.ensures.split (under es c.args.order.now c.args.i) (record { told = λ k t h e. search rules }) (under-falls es c.args.order.now c.args.i c.requires.1))

@@ -1,6 +1,5 @@
 use mathlib.Core.Bool.{not}
 use mathlib.Core.Path.{ap}
-use borrow.Author.Rules.{rules}
 use native.Mathlib.Omega.{arith}
 use Rattle.allocator.specs.Opening.{free_word}
 use Rattle.soundness.proofs.Marks.{pass-start, pass-turn, pass-fail, pass-end}
@@ -8,22 +7,18 @@ use Rattle.soundness.proofs.pointers.mark_free.Goals as goal
 
 pub loop-i-init : goal.loop-i-init
 loop-i-init c =
-    (search rules, pass-start c.args.span c.args.next (free_word c.args.words.now) c.args.marks.now)
-
-pub mark-requires : goal.mark-requires
-mark-requires c =
-    (c.requires.1, c.requires.2)
+    pass-start c.args.span c.args.next (free_word c.args.words.now) c.args.marks.now
 
 pub returns-then-not-mark : goal.returns-then-not-mark
 unfolding free_word
 returns-then-not-mark c =
-    pass-fail c.args.span c.args.next (free_word c.args.words.now) c.args.marks.now c.loop-i.i c.loop-i.invariant.1 c.get_ptr.ensures c.mark.ensures c.args.count (omega arith) (ap not c.if-not-mark.true)
+    pass-fail c.args.span c.args.next (free_word c.args.words.now) c.args.marks.now c.loop-i.i c.loop-i.invariant c.get_ptr.ensures c.mark.ensures c.args.count (omega arith) (ap not c.if-not-mark.true)
 
 pub loop-i-preserved : goal.loop-i-preserved
 unfolding free_word
 loop-i-preserved c =
-    (omega arith, pass-turn c.args.span c.args.next (free_word c.args.words.now) c.args.marks.now c.loop-i.i c.loop-i.invariant.1 c.get_ptr.ensures c.mark.ensures (ap not c.if-not-mark.false))
+    pass-turn c.args.span c.args.next (free_word c.args.words.now) c.args.marks.now c.loop-i.i c.loop-i.invariant c.get_ptr.ensures c.mark.ensures (ap not c.if-not-mark.false)
 
 pub returns : goal.returns
 returns c =
-    pass-end c.args.span c.args.next (free_word c.args.words.now) c.args.marks.now c.loop-i.invariant.1 (omega arith)
+    pass-end c.args.span c.args.next (free_word c.args.words.now) c.args.marks.now c.loop-i.invariant (omega arith)

@@ -23,10 +23,10 @@ pub clear-requires : goal.clear-requires
 clear-requires c =
     omega (arith, table-end (chunk-table c.args.volume.now c.args.layout c.requires.0))
 
-pub put64-requires : goal.put64-requires
-put64-requires c =
+pub put-requires : goal.put-requires
+put-requires c =
     omega (arith, rooms c.args.volume.now c.args.layout c.requires.0)
 
 pub returns : goal.returns
 returns c =
-    rows-opened (chunk-table c.args.volume.now c.args.layout c.requires.0) c.args.place c.args.count _ _ chunk-blank c.chunks_used-used.ensures.0 c.requires.1 c.requires.2 c.shift_up.ensures c.clear.ensures c.put64.ensures
+    rows-opened (chunk-table c.args.volume.now c.args.layout c.requires.0) c.args.place c.args.count _ _ chunk-blank c.chunks_used-used.ensures.0 c.requires.1 c.requires.2 c.shift_up.ensures c.clear.ensures c.put.ensures

@@ -7,26 +7,19 @@ pub returns-then-count-eq0 : goal.returns-then-count-eq0
 returns-then-count-eq0 c =
     none-removed (chunk-table c.args.volume.now c.args.layout c.requires.0) c.args.place c.args.count c.if-count-eq0.true
 
-pub overflow_add-end : goal.overflow_add-end
-overflow_add-end c =
-    omega (arith, table-end (chunk-table c.args.volume.now c.args.layout c.requires.0))
-
 pub overflow_add-base : goal.overflow_add-base
 overflow_add-base c =
     omega (arith, table-end (chunk-table c.args.volume.now c.args.layout c.requires.0))
 
-pub shift_down-requires : goal.shift_down-requires
-shift_down-requires c =
-    (omega (arith, table-end (chunk-table c.args.volume.now c.args.layout c.requires.0)), (omega (arith, table-end (chunk-table c.args.volume.now c.args.layout c.requires.0)), omega (arith, table-end (chunk-table c.args.volume.now c.args.layout c.requires.0))))
-
-pub clear-requires : goal.clear-requires
-clear-requires c =
+pub overflow_add-base-2 : goal.overflow_add-base-2
+overflow_add-base-2 c =
     omega (arith, table-end (chunk-table c.args.volume.now c.args.layout c.requires.0))
 
-pub put64-requires : goal.put64-requires
-put64-requires c =
-    omega (arith, rooms c.args.volume.now c.args.layout c.requires.0)
+pub take_out-requires : goal.take_out-requires
+take_out-requires c =
+    let e = table-end (chunk-table c.args.volume.now c.args.layout c.requires.0) in
+    (omega arith, omega arith, omega arith, omega (arith, rooms c.args.volume.now c.args.layout c.requires.0))
 
 pub returns : goal.returns
 returns c =
-    rows-removed (chunk-table c.args.volume.now c.args.layout c.requires.0) c.args.place c.args.count _ c.chunks_used-used.ensures.0 c.requires.1 c.shift_down.ensures c.clear.ensures c.put64.ensures
+    rows-removed (chunk-table c.args.volume.now c.args.layout c.requires.0) c.args.place c.args.count _ c.chunks_used-used.ensures.0 c.requires.1 c.take_out.ensures

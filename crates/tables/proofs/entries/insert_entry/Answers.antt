@@ -7,8 +7,8 @@ pub overflow_add-at : goal.overflow_add-at
 overflow_add-at c =
     omega (arith, table-end (entry-table c.args.volume.now c.args.layout c.requires.0))
 
-pub overflow_add-base : goal.overflow_add-base
-overflow_add-base c =
+pub overflow_add-end : goal.overflow_add-end
+overflow_add-end c =
     omega (arith, table-end (entry-table c.args.volume.now c.args.layout c.requires.0))
 
 pub shift_up-requires : goal.shift_up-requires
@@ -19,10 +19,10 @@ pub write_entry-requires : goal.write_entry-requires
 write_entry-requires c =
     (omega (arith, table-end (entry-table c.args.volume.now c.args.layout c.requires.0)), omega (arith, c.requires.3))
 
-pub put64-requires : goal.put64-requires
-put64-requires c =
+pub put-requires : goal.put-requires
+put-requires c =
     omega (arith, rooms c.args.volume.now c.args.layout c.requires.0)
 
 pub returns : goal.returns
 returns c =
-    row-inserted (entry-table c.args.volume.now c.args.layout c.requires.0) c.args.place _ _ c.entries_used-used.ensures.0 c.requires.1 c.requires.2 c.shift_up.ensures c.write_entry.ensures c.put64.ensures
+    row-inserted (entry-table c.args.volume.now c.args.layout c.requires.0) c.args.place _ _ c.entries_used-used.ensures.0 c.requires.1 c.requires.2 c.shift_up.ensures c.write_entry.ensures c.put.ensures

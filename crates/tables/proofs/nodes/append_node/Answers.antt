@@ -11,10 +11,10 @@ pub write_node-requires : goal.write_node-requires
 write_node-requires c =
     omega (arith, table-end (node-table c.args.volume.now c.args.layout c.requires.0))
 
-pub put64-requires : goal.put64-requires
-put64-requires c =
+pub put-requires : goal.put-requires
+put-requires c =
     omega (arith, rooms c.args.volume.now c.args.layout c.requires.0)
 
 pub returns : goal.returns
 returns c =
-    row_appended (node-table c.args.volume.now c.args.layout c.requires.0) _ c.args.row c.nodes_used-used.ensures.0 c.requires.1 c.write_node.ensures c.put64.ensures
+    row_appended (node-table c.args.volume.now c.args.layout c.requires.0) _ c.args.row c.nodes_used-used.ensures.0 c.requires.1 c.write_node.ensures c.put.ensures

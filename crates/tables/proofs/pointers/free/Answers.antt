@@ -1,20 +1,7 @@
 use native.Mathlib.Omega.{arith}
 use Rattle.volume.specs.Volume.{shown}
-use Rattle.tables.proofs.ReadyVolume.{rooms}
 use Rattle.tables.proofs.LentAllocator.{lent-formed, lent-count, lent-long, freed}
 use Rattle.tables.proofs.pointers.free.Goals as goal
-
-pub slice_bounds-free-count : goal.slice_bounds-free-count
-slice_bounds-free-count c =
-    omega (arith, rooms c.args.volume.now c.args.layout c.requires.0)
-
-pub slice_bounds-free-start : goal.slice_bounds-free-start
-slice_bounds-free-start c =
-    omega (arith, rooms c.args.volume.now c.args.layout c.requires.0)
-
-pub slice_bounds-free-end : goal.slice_bounds-free-end
-slice_bounds-free-end c =
-    omega (arith, rooms c.args.volume.now c.args.layout c.requires.0)
 
 pub free-requires : goal.free-requires
 unfolding shown

@@ -3,4 +3,4 @@ use Rattle.volume.proofs.chunks.chunk_under.Goals as goal
 
 pub returns : goal.returns
 returns c =
-    chunk-is-under c.args.volume.now c.args.at c.args.node c.args.index c.get64.ensures c.get64-2.ensures c.pair_before.ensures
+    chunk-is-under c.args.volume.now c.args.at c.args.node c.args.index c.get.ensures.value c.get-2.ensures.value c.pair_before.ensures

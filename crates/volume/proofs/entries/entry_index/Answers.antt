@@ -4,4 +4,4 @@ use Rattle.volume.proofs.entries.entry_index.Goals as goal
 
 pub returns : goal.returns
 returns c =
-    (c.get32.ensures.0 ∙ sym (entry-numbers c.args.volume.now c.args.at).2, c.get32.ensures.1)
+    (c.get.ensures.value ∙ sym (entry-numbers c.args.volume.now c.args.at).2, c.get.ensures.bound)

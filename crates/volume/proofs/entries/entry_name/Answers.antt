@@ -3,4 +3,4 @@ use Rattle.volume.proofs.entries.entry_name.Goals as goal
 
 pub returns : goal.returns
 returns c =
-    name-lent c.args.volume.now c.args.at c.get32-long.ensures.0 c.requires.1
+    name-lent c.args.volume.now c.args.at c.get-long.ensures.value c.requires.1

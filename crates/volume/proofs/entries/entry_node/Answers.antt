@@ -4,4 +4,4 @@ use Rattle.volume.proofs.entries.entry_node.Goals as goal
 
 pub returns : goal.returns
 returns c =
-    c.get64.ensures ∙ sym (entry-numbers c.args.volume.now c.args.at).1
+    c.get.ensures.value ∙ sym (entry-numbers c.args.volume.now c.args.at).1

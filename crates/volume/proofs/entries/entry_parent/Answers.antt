@@ -4,4 +4,4 @@ use Rattle.volume.proofs.entries.entry_parent.Goals as goal
 
 pub returns : goal.returns
 returns c =
-    c.get64.ensures ∙ sym (entry-numbers c.args.volume.now c.args.at).0
+    c.get.ensures.value ∙ sym (entry-numbers c.args.volume.now c.args.at).0

@@ -1,21 +1,21 @@
+use Prim.Native.Nat.{◌+◌}
 use Rattle.words.proofs.Rules.{told, stop, go_on, by2}
 use Rattle.words.proofs.Blocks.{zero-part}
 use Rattle.volume.specs.RowTests.{limit_formed, node_formed}
-use Rattle.volume.proofs.KindBytes.{known_as}
-use Prim.Native.Nat.{◌+◌}
+use Rattle.volume.proofs.RowFields.{kind-read}
 use Rattle.volume.proofs.nodes.node_formed.Goals as goal
 
-pub returns-in_default : goal.returns-in_default
+pub returns-then-is_err : goal.returns-then-is_err
 unfolding node_formed
-returns-in_default c =
-    stop _ _ (known_as c.get8-byte.ensures.0 c.kind_of-kind.ensures c.in_default.is)
+returns-then-is_err c =
+    stop _ _ (kind-read c.get-byte.ensures.value c.try_from.ensures c.is_err.ensures.value c.if-is_err.true)
 
 pub returns-then-not-limit_formed : goal.returns-then-not-limit_formed
 unfolding node_formed
 returns-then-not-limit_formed c =
-    (go_on _ _ (known_as c.get8-byte.ensures.0 c.kind_of-kind.ensures c.in-Known.is)) (stop _ _ (told ((by2 limit_formed c.limit_formed.ensures c.get8.ensures.0 c.get64.ensures)) c.if-not-limit_formed.true))
+    (go_on _ _ (kind-read c.get-byte.ensures.value c.try_from.ensures c.is_err.ensures.value c.if-is_err.false)) (stop _ _ (told ((by2 limit_formed c.limit_formed.ensures c.get.ensures.value c.get-2.ensures.value)) c.if-not-limit_formed.true))
 
 pub returns : goal.returns
 unfolding node_formed
 returns c =
-    (go_on _ _ (known_as c.get8-byte.ensures.0 c.kind_of-kind.ensures c.in-Known.is)) (go_on _ _ (told ((by2 limit_formed c.limit_formed.ensures c.get8.ensures.0 c.get64.ensures)) c.if-not-limit_formed.false) (zero-part (c.args.volume.now) (c.args.at + 10) 6 c.is_zero.ensures))
+    (go_on _ _ (kind-read c.get-byte.ensures.value c.try_from.ensures c.is_err.ensures.value c.if-is_err.false)) (go_on _ _ (told ((by2 limit_formed c.limit_formed.ensures c.get.ensures.value c.get-2.ensures.value)) c.if-not-limit_formed.false) (zero-part (c.args.volume.now) (c.args.at + 10) 6 c.is_zero.ensures))

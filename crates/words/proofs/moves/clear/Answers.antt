@@ -1,23 +1,14 @@
-use mathlib.Core.Path.{◌≡◌, refl, sym}
+use mathlib.Core.Path.{◌≡◌}
+use Prim.Native.Nat.{◌+◌, ◌-◌}
 use native.Mathlib.Omega.{arith}
-use borrow.Author.Rules.{rules}
-use lib.ListN.{length-set}
+use lib.ListN.{length, take, drop, length-take, length-drop}
 use Rattle.words.specs.Bytes.{zeros}
-use Rattle.words.proofs.Parts.{over-nil}
-use Rattle.words.proofs.WriteLoops.{clear-turn}
+use Rattle.words.proofs.Parts.{lent_at, length-zeros}
 use Rattle.words.proofs.moves.clear.Goals as goal
 
-pub loop-i-init : goal.loop-i-init
-unfolding zeros
-loop-i-init c =
-    (search rules, sym (over-nil c.args.v.now c.args.at), refl)
-
-pub loop-i-preserved : goal.loop-i-preserved
-loop-i-preserved c =
-    let w = c.loop-i in
-    (search rules, clear-turn c.args.v.now c.args.at w.i w.invariant.1 (omega arith), simp length-set (omega arith))
-
 pub returns : goal.returns
+unfolding zeros
 returns c =
-    let e : c.loop-i.i ≡ c.args.n = omega arith in
-    rw e at c.loop-i.invariant.1
+    let a = c.args in
+    let e : length (take (a.at + a.n - a.at) (drop a.at a.v.now)) ≡ a.n = simp (length-take, length-drop) (omega arith) in
+    lent_at a.v.now a.at a.n _ (zeros a.n) (rw e at (c.fill.ensures.after (λ y e. e))) (length-zeros a.n)

@@ -1,0 +1,8 @@
+use mathlib.Core.Path.{sym, ◌∙◌}
+use native.Mathlib.Omega.{arith}
+use Rattle.tables.proofs.ReadyVolume.{rooms, count-chunks}
+use Rattle.tables.proofs.reading.Tables.chunks_used.Goals as goal
+
+pub returns : goal.returns
+returns c =
+    rw (← c.self.view_is) ((c.get.ensures.value ∙ sym (count-chunks c.self.inside.bytes.now), omega (arith, rooms c.self.inside.bytes.now c.self.inside.layout c.self.invariant, c.get.ensures.value)))

@@ -1,0 +1,134 @@
+// The numbers of a text. A number past the last one is 0.
+ghost use Rattle.std.specs.Prelude.{◌≡◌, ◌+◌, ◌≤◌, ◌<◌, ◌↔◌, ◌++◌, min, length, drop, position, IsTrue, SomeIff};
+ghost use Rattle.vectors.specs.Scan.{is_digit, digit as Scan·digit, from_digit, past_digits, spelled, held};
+ghost use Rattle.vectors.specs.Scan.{number_at, next_at, numbers_at, after_at};
+
+use std::marker::Model;
+
+// A reader of numbers. A contract sees the bytes that it has left.
+#[derive(Drop)]
+pub struct Numbers<'a> {
+    rest: &'a [u8],
+}
+
+impl<'a> Model for Numbers<'a> {
+    ghost use Rattle.std.specs.Prelude.{ℕ, List};
+
+    ghost Value = { List ℕ };
+
+    ghost view = { λ a. a.rest.now };
+}
+
+impl<'a> Numbers<'a> {
+    pub fn new(text: &'a [u8]) -> Numbers<'a>
+        ensures { result ≡ text.now }
+    {
+        Numbers { rest: text }
+    }
+
+    // Whether no byte is left.
+    pub fn is_over(&self) -> bool
+        ensures { IsTrue result ↔ (length self.now ≡ 0) }
+    {
+        self.rest.is_empty()
+    }
+
+    // The next number, which stays the next.
+    pub fn peek(&self) -> u64
+        ensures found { result ≡ number_at self.now 0 }
+        ensures past { length self.now ≡ 0 → result ≡ 0 }
+    {
+        let (value, _) = spelled(from_digit(self.rest));
+        value
+    }
+
+    // The next number, modulo 2^64. Every call leaves fewer bytes until none is left.
+    pub fn number(&mut self) -> u64
+        ensures found { (result ≡ number_at self.old 0) × (self.new ≡ drop (next_at self.old 0) self.old) }
+        ensures past { length self.old ≡ 0 → result ≡ 0 }
+        ensures behind { min 1 (length self.old) + length self.new ≤ length self.old }
+    {
+        let (value, rest) = spelled(from_digit(self.rest));
+        self.rest = rest;
+        value
+    }
+
+    // The next N numbers.
+    pub fn numbers<const N: usize>(&mut self) -> [u64; N]
+        ensures found { (result ≡ numbers_at self.old 0 N) × (self.new ≡ drop (after_at self.old 0 N) self.old) }
+        ensures behind { min N (length self.old) + length self.new ≤ length self.old }
+    {
+        let mut out = [0; N];
+        for x in out.iter_mut() {
+            *x = self.number();
+        }
+        out
+    }
+
+    // The next numbers as bytes, as many as out holds.
+    pub fn bytes(&mut self, out: &mut [u8])
+        ensures { length self.new ≤ length self.old }
+    {
+        for byte in out.iter_mut() {
+            *byte = (self.number() % 256) as u8;
+        }
+    }
+
+    // The bytes up to the end of the line, or of the text.
+    pub fn rest_of_line(&mut self) -> &'a [u8]
+        ensures { self.old ≡ result.now ++ self.new }
+    {
+        let end = self.rest.iter().position(|byte| *byte == b'\n');
+        let (line, behind) = self.rest.split_at(end.unwrap_or(self.rest.len()));
+        self.rest = behind;
+        line
+    }
+}
+
+// The text from its first digit on.
+fn from_digit(text: &[u8]) -> &[u8]
+    ensures { result.now ≡ from_digit text.now }
+{
+    let start = first_digit(text).unwrap_or(text.len());
+    &text[start..]
+}
+
+// The index of the first digit, if there is one.
+fn first_digit(text: &[u8]) -> Option<usize>
+    ensures { result ≡ position is_digit text.now }
+{
+    text.iter().position(|byte| is_digit(*byte))
+}
+
+// The number that the digits in front spell, modulo 2^64, and the text behind them.
+fn spelled(text: &[u8]) -> (u64, &[u8])
+    ensures value { result.0 ≡ held (spelled 0 text.now) }
+    ensures rest { result.1.now ≡ past_digits text.now }
+{
+    let mut value = 0u64;
+    for (i, byte) in text.iter().enumerate() {
+        let Some(digit) = digit(*byte) else {
+            return (value, &text[i..]);
+        };
+        value = value.wrapping_mul(16).wrapping_add(digit);
+    }
+    (value, &[])
+}
+
+fn is_digit(byte: u8) -> bool
+    ensures { result ≡ is_digit byte }
+{
+    digit(byte).is_some()
+}
+
+// What a byte means as a digit, if anything.
+#[tactic(auto, unfolding(crate::specs::Scan::digit))]
+fn digit(byte: u8) -> Option<u64>
+    ensures { SomeIff result (Scan·digit byte < 16) (Scan·digit byte) }
+{
+    match byte {
+        b'0'..=b'9' => Some(u64::from(byte - b'0')),
+        b'a'..=b'f' => Some(u64::from(byte - b'a') + 10),
+        _ => None,
+    }
+}

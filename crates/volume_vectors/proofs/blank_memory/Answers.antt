@@ -1,9 +1,0 @@
-use mathlib.Core.Path.{sym}
-use Prim.Native.Nat.{ℕ}
-use lib.ListN.{length-replicate}
-use Rattle.volume_vectors.proofs.blank_memory.Goals as goal
-
--- The level and the type are written, so that antt compares the lengths by their arguments and does not count.
-pub returns : goal.returns
-returns c =
-    sym (length-replicate {0} {A = ℕ} 1572864 0)

@@ -1,8 +1,0 @@
-use native.Mathlib.Omega.{arith}
-use Rattle.words.proofs.Numbers.{num-add}
-use Rattle.words.proofs.get64.Goals as goal
-
-pub returns : goal.returns
-returns c =
-    let s = c.args in
-    omega (arith, num-add 4 4 s.v.now s.at (omega arith))
