@@ -144,7 +144,7 @@ fn new_node(node: u64, kind: FileType) -> NodeRecord
     }
 }
 
-// Makes a node of a type, and names it in a directory.
+// Makes a node of a type, and names it in a directory. The type is a byte, since an unknown one is refused behind the parent and the name.
 pub fn create(
     volume: &mut [u8],
     layout: Layout,

@@ -6,3 +6,4 @@ pub mod Refusal
 pub mod Shortening
 pub mod NewVolume
 pub mod EntryGiven
+pub mod Decimal

@@ -28,7 +28,7 @@ pub fn find_node(volume: &[u8], start: u64, path: &[u8]) -> Result<u64, Error>
 }
 
 // The entry of a directory with the least index at or above one: its name as a part of the volume, and its index and node through lent
-// places, as the number of the answer. A refusal gives an empty part and zeros.
+// places, as the number of the answer. A refusal gives an empty part and zeros: that is promised of the lent places (GivesEntry), so they stay.
 pub fn next_entry<'a>(
     volume: &'a [u8],
     directory: u64,
@@ -101,7 +101,8 @@ pub fn search(
     directories::search(&tables, directory, name, from as u64, most)
 }
 
-// Makes a node of a type and names it in a directory; answers the node.
+// Makes a node of a type and names it in a directory; answers the node. The type is a byte, since what it may not be is refused only behind
+// what the parent and the name may not be.
 pub fn create(volume: &mut [u8], parent: u64, name: &[u8], kind: u8) -> Result<u64, Error>
     ensures { outcome result volume.new ≡ create parent name.now kind volume.old }
 {
@@ -131,7 +132,7 @@ pub fn unlink(
     directories::unlink(volume, layout, start, path, expected, opens)
 }
 
-// The same, with the kind that is expected as a byte.
+// The same, with the kind that is expected as a byte: any other is refused, but behind a memory that is not sound.
 pub fn unlink_byte(
     volume: &mut [u8],
     start: u64,

@@ -95,7 +95,7 @@ fn place_piece(
     }
 }
 
-// The parts of a path, as their bounds in two lent arrays.
+// The parts of a path, as their bounds in two lent arrays. Theorems on what bounds show speak of two lists (cut-shows, cut_fits).
 #[tactic(auto, using(crate::proofs::Walk::walking))]
 pub fn get_path_parts(
     path: &[u8],
@@ -115,7 +115,7 @@ pub fn get_path_parts(
         count: 0,
         opened: true,
     };
-    for piece in path.split(|&byte| byte == b'/') {
+    for piece in path.split(|&byte| matches!(byte, b'/')) {
         parts = place_piece(piece, at, parts.count, starts, lengths)?;
         at += piece.len() + 1;
     }

@@ -8,7 +8,7 @@ ghost use Rattle.soundness.specs.Counters.{Counts};
 use tables::Tables;
 use types::NodeRecord;
 
-// As many counters as a table may have rows.
+// As many counters as a table may have rows. There are two arrays of them, each told by itself (Counts).
 pub const COUNTERS: usize = types::MOST_ROWS as usize;
 
 // The root's number.

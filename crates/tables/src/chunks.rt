@@ -8,7 +8,7 @@ use crate::reading::Tables;
 use crate::rows::take_out;
 use volume::{ChunkRow, Layout};
 
-// Writes another row over the one at a place.
+// Writes another row over the one at a place, as change_node does: one function over both writers would be longer than the two.
 pub fn change_chunk(volume: &mut [u8], layout: Layout, place: usize, row: ChunkRow)
     requires { Ready volume.old layout × (place < length (shown volume.old).store.chunks) }
     ensures { volume.new ≡ laid (on_store (with_chunks (set (shown volume.old).store.chunks place row)) (shown volume.old)) }

@@ -1,5 +1,5 @@
 // The numbers of a text. A number past the last one is 0.
-ghost use Rattle.std.specs.Prelude.{◌≡◌, ◌+◌, ◌≤◌, ◌<◌, ◌↔◌, ◌++◌, min, length, drop, position, IsTrue, SomeIff};
+ghost use Rattle.std.specs.Prelude.{◌≡◌, ◌+◌, ◌≤◌, ◌<◌, ◌++◌, ◌==◌, min, length, take, drop, position, unwrap_or, IfSome, SomeIff};
 ghost use Rattle.vectors.specs.Scan.{is_digit, digit as Scan·digit, from_digit, past_digits, spelled, held};
 ghost use Rattle.vectors.specs.Scan.{number_at, next_at, numbers_at, after_at};
 
@@ -24,13 +24,6 @@ impl<'a> Numbers<'a> {
         ensures { result ≡ text.now }
     {
         Numbers { rest: text }
-    }
-
-    // Whether no byte is left.
-    pub fn is_over(&self) -> bool
-        ensures { IsTrue result ↔ (length self.now ≡ 0) }
-    {
-        self.rest.is_empty()
     }
 
     // The next number, which stays the next.
@@ -76,13 +69,29 @@ impl<'a> Numbers<'a> {
 
     // The bytes up to the end of the line, or of the text.
     pub fn rest_of_line(&mut self) -> &'a [u8]
-        ensures { self.old ≡ result.now ++ self.new }
+        ensures line { result.now ≡ take (unwrap_or (position (λ b. b == 10) self.old) (length self.old)) self.old }
+        ensures parts { self.old ≡ result.now ++ self.new }
     {
-        let end = self.rest.iter().position(|byte| *byte == b'\n');
-        let (line, behind) = self.rest.split_at(end.unwrap_or(self.rest.len()));
+        let (line, behind) = self.rest.split_at(line_length(self.rest));
         self.rest = behind;
         line
     }
+}
+
+// How many bytes stand before the end of the line.
+fn line_length(text: &[u8]) -> usize
+    ensures found { result ≡ unwrap_or (position (λ b. b == 10) text.now) (length text.now) }
+    ensures inside { result ≤ length text.now }
+{
+    line_end(text).unwrap_or(text.len())
+}
+
+// The index of the end of the line, if it has one.
+fn line_end(text: &[u8]) -> Option<usize>
+    ensures found { result ≡ position (λ b. b == 10) text.now }
+    ensures inside { IfSome result (λ end. end < length text.now) }
+{
+    text.iter().position(|byte| *byte == b'\n')
 }
 
 // The text from its first digit on.

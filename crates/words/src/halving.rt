@@ -1,4 +1,4 @@
-// A search by halving.
+// A search by halving. std has one for slices alone, and the rows of a table are no slice of anything.
 ghost use Rattle.std.specs.Prelude.{◌≡◌, ℕ, ◌≤◌, Bool};
 ghost use Rattle.words.specs.Seek.{AsksBelow, TellsBelow, FallsBelow, SplitsAt};
 
