@@ -2,24 +2,58 @@
 -- Assumes nothing.
 use mathlib.Core.Path.{◌≡◌, refl}
 use mathlib.Core.List.{List, [], ◌∷◌, ◌++◌, append_assoc, append-nil}
-use Prim.Native.Nat.{ℕ, zero, suc, ◌+◌, ◌-◌, ◌/◌, ◌%◌, ◌^◌, ◌≤◌, ◌<◌}
+use Prim.Native.Nat.{ℕ, zero, suc, ◌+◌, ◌-◌, ◌/◌, ◌^◌, ◌≤◌, ◌<◌}
 use native.Mathlib.Nat.{pow-succ'}
-use native.Mathlib.Numerals.{add-one}
 use native.Mathlib.Omega.{arith}
 use borrow.Author.Tests.{lt-ltb, le-ltb}
-use lib.ListN.{length, set, length-append}
+use lib.ListN.{length, length-append}
 use Rattle.words.specs.Bytes.{over, spell}
 use Rattle.words.specs.Tables.{joined}
-use Rattle.words.proofs.Parts.{set-over, over-before, over-nil, two}
+use Rattle.words.proofs.Parts.{two}
 use Rattle.words.proofs.Rules.{pick_true, pick-false}
 use Rattle.volume.specs.Volume.{Volume}
 use Rattle.lentilraft.specs.Report.{digits, width, decimal, line, size_lines, row_lines, next_lines, text}
 
 -- ---- how many digits
 
+width_one : (m n : ℕ) → 0 < m → n < 10 → 1 ≡ width m n
+unfolding width
+width_one zero n p h = absurd (omega arith)
+width_one (suc m) n p h = pick_true _ _ _ _ (lt-ltb _ _ h) refl
+
 pub width-more : (m n : ℕ) → 10 ≤ n → 1 + width m (n / 10) ≡ width (suc m) n
 unfolding width
 width-more m n h = pick-false _ _ _ _ (le-ltb _ _ h) refl
+
+-- of w digits, at most 20, k - 1 are cut off, and rest has the others
+pub record Seen (w k rest : ℕ) : Type 0 where
+  pub least : 1 ≤ k
+  pub most : k ≤ 20
+  pub width : w ≡ k - 1 + width (21 - k) rest
+  pub below : rest < 10 ^ (21 - k)
+
+pub seen_first : (n : ℕ) → n < 2 ^ 64 → Seen (width 20 n) 1 n
+seen_first n h = record { least = omega arith; most = omega arith; width = omega arith; below = omega arith }
+
+pub seen_next : (w k n : ℕ) → Seen w k n → 10 ≤ n → Seen w (k + 1) (n / 10)
+seen_next w k n s h = go (20 - k) refl
+  where
+    go : (m : ℕ) → 20 - k ≡ m → Seen w (k + 1) (n / 10)
+    go zero e =
+        let a : 21 - k ≡ 1 = omega arith in
+        absurd (omega (arith, rw a at s.below))
+    go (suc m) e =
+        let a : 21 - k ≡ suc (suc m) = omega arith in
+        let b : 21 - (k + 1) ≡ suc m = omega arith in
+        record {
+          least = omega arith;
+          most = omega arith;
+          width = rw b (omega (arith, rw a at s.width, width-more (suc m) n h));
+          below = rw b (omega (arith, rw (a, pow-succ') at s.below));
+        }
+
+pub seen_last : (w k n : ℕ) → Seen w k n → n < 10 → (k ≡ w) × (1 ≤ k) × (k ≤ 20)
+seen_last w k n s h = (omega (arith, width_one (21 - k) n (omega (arith, s.most)) h, s.width, s.least), s.least, s.most)
 
 -- ---- digits
 
