@@ -1,3 +1,5 @@
+pub mod Digits
 pub mod Scanning
+pub mod PastEnd
 pub mod Sums
 pub mod Seeds

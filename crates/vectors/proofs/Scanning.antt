@@ -31,6 +31,13 @@ from-first (b ∷ bs) = go (is_digit b) (from-first bs)
 pub from_position : (l : List ℕ) → drop (unwrap_or (position is_digit l) (length l)) l ≡ from_digit l
 from_position l = rw (or-length (position_or_len is_digit l) (length l) (prefix_len-le-length (λ x. not (is_digit x)) l)) (from-first l)
 
+-- a digit at index i, where d is its value: the digits start there
+pub skip_stop : (l : List ℕ) (i : ℕ) {d : ℕ} → d ≡ digit (get_or l i 0) → i < length l → d < 16 → {t : List ℕ} → from_digit (drop i l) ≡ t → drop i l ≡ t
+unfolding from_digit
+skip_stop l i e h k p =
+    let m : digit (get_or l i 0) < 16 = omega arith in
+    drop-cons l i 0 h ∙ (rw (drop-cons l i 0 h, lt-ltb (digit (get_or l i 0)) 16 m) at p)
+
 -- ---- the digits in front, at index i of a text
 
 module _ (l : List ℕ) (i : ℕ) (h : i < length l) where
@@ -110,6 +117,18 @@ less (b ∷ bs) = go (is_digit b) refl (past-le bs) (past-le (from_digit bs)) (f
     go true e j k m = rw e (omega arith)
     go false e j k m = omega arith
 
+-- the index r behind the digits that start at index s
+pub next_of : (l : List ℕ) (at s r : ℕ) → r ≤ length l → drop s l ≡ from_digit (drop at l) → drop r l ≡ past_digits (drop s l) → r ≡ next_at l at
+unfolding next_at
+next_of l at s r h p q =
+    let e = ap length (q ∙ ap past_digits p) in
+    omega (arith, length-drop r l)
+
+-- what they spell
+pub number_of : (l : List ℕ) (at s : ℕ) {v : ℕ} → drop s l ≡ from_digit (drop at l) → v ≡ held (spelled 0 (drop s l)) → v ≡ number_at l at
+unfolding number_at
+number_of l at s p q = q ∙ ap (λ (m : List ℕ). held (spelled 0 m)) p
+
 -- what is left is the end of the text
 past-first : (l : List ℕ) → past_digits l ≡ drop (prefix_len is_digit l) l
 unfolding past_digits
@@ -158,6 +177,10 @@ pub after_more : (l : List ℕ) (at n : ℕ) → after_at l at (suc n) ≡ next_
 unfolding after_at
 after_more l at zero = refl
 after_more l at (suc n) = after_more l (next_at l at) n
+
+-- one more
+pub after_turn : (l : List ℕ) (at i : ℕ) {next : ℕ} → next ≡ after_at l at i → {r : ℕ} → r ≡ next_at l next → r ≡ after_at l at (i + 1)
+after_turn l at i p e = rw (add-one i) (e ∙ ap (next_at l) p ∙ sym (after_more l at i))
 
 -- a reader that has the text from an index on
 pub number_from : (l : List ℕ) (at : ℕ) → number_at (drop at l) 0 ≡ number_at l at
