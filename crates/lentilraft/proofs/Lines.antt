@@ -2,14 +2,15 @@
 -- Assumes nothing.
 use mathlib.Core.Path.{◌≡◌, refl}
 use mathlib.Core.List.{List, [], ◌∷◌, ◌++◌, append_assoc, append-nil}
-use Prim.Native.Nat.{ℕ, zero, suc, ◌+◌, ◌-◌, ◌/◌, ◌^◌, ◌≤◌, ◌<◌}
+use Prim.Native.Nat.{ℕ, zero, suc, ◌+◌, ◌-◌, ◌/◌, ◌%◌, ◌^◌, ◌≤◌, ◌<◌}
 use native.Mathlib.Nat.{pow-succ'}
+use native.Mathlib.Numerals.{add-one}
 use native.Mathlib.Omega.{arith}
 use borrow.Author.Tests.{lt-ltb, le-ltb}
-use lib.ListN.{length, length-append}
+use lib.ListN.{length, set, length-append}
 use Rattle.words.specs.Bytes.{over, spell}
 use Rattle.words.specs.Tables.{joined}
-use Rattle.words.proofs.Parts.{two}
+use Rattle.words.proofs.Parts.{set-over, over-before, over-nil, two}
 use Rattle.words.proofs.Rules.{pick_true, pick-false}
 use Rattle.volume.specs.Volume.{Volume}
 use Rattle.lentilraft.specs.Report.{digits, width, decimal, line, size_lines, row_lines, next_lines, text}
