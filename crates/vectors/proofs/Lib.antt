@@ -3,3 +3,4 @@ pub mod Scanning
 pub mod PastEnd
 pub mod Sums
 pub mod Seeds
+pub mod Reading
