@@ -5,8 +5,9 @@ ghost use Rattle.vectors.specs.Scan.{number_at, next_at, numbers_at, after_at};
 
 use std::marker::Model;
 
-// A reader of numbers. A contract sees the bytes that it has left.
-#[derive(Drop)]
+// A reader of numbers. A contract sees the bytes that it has left. Today's Rattle has no Copy for a struct with a lifetime: `copied` gives
+// another reader.
+#[derive(Clone, Drop)]
 pub struct Numbers<'a> {
     rest: &'a [u8],
 }
@@ -27,7 +28,7 @@ impl<'a> Numbers<'a> {
     }
 
     // Another reader of the bytes that are left.
-    pub(crate) fn copied(&self) -> Numbers<'a>
+    pub fn copied(&self) -> Numbers<'a>
         ensures { result ≡ self.now }
     {
         Numbers { rest: self.rest }
