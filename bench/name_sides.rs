@@ -209,46 +209,40 @@ impl Calls for Checked {
 pub struct Worker;
 
 #[cfg(plain)]
-impl Worker {
-    fn told(answer: types::Answer) -> Answer {
-        told(types::number(answer), types::value(answer))
-    }
+fn laid_out(volume: &[u8]) -> tables::Tables<'_> {
+    tables::Tables { bytes: volume, layout: volume::read_layout(volume) }
 }
 
 #[cfg(plain)]
 impl Calls for Worker {
     fn find(volume: &[u8], name: &[u8]) -> Answer {
-        let layout = volume::read_layout(volume);
-        Self::told(directories::find_node(volume, layout, ROOT, name))
+        directories::find_node(&laid_out(volume), ROOT, name).map_err(u32::from)
     }
 
     fn next_entry(volume: &[u8], from: u32) -> Result<NameAt, u32> {
-        let layout = volume::read_layout(volume);
-        let place = match directories::next_place(volume, layout, ROOT, from as u64) {
-            directories::NextPlace::At(place) => place,
-            directories::NextPlace::Refused(error) => return Err(types::error_number(error)),
-        };
-        let at = tables::name_start(volume, layout, place);
+        let tables = laid_out(volume);
+        let place = directories::next_place(&tables, ROOT, from as u64).map_err(u32::from)?;
+        let at = tables.name_start(place);
         Ok(NameAt {
-            name: at..at + tables::entry_name(volume, layout, place).len(),
-            index: tables::entry_index(volume, layout, place) as u32,
-            node: tables::entry_node(volume, layout, place),
+            name: at..at + tables.entry_name(place).len(),
+            index: tables.entry_index(place) as u32,
+            node: tables.entry_node(place),
         })
     }
 
     fn create(volume: &mut [u8], name: &[u8]) -> Answer {
         let layout = volume::read_layout(volume);
-        Self::told(directories::create(volume, layout, ROOT, name, REGULAR_FILE))
+        directories::create(volume, layout, ROOT, name, REGULAR_FILE).map_err(u32::from)
     }
 
     fn unlink(volume: &mut [u8], name: &[u8]) -> Answer {
         let layout = volume::read_layout(volume);
-        Self::told(directories::unlink(volume, layout, ROOT, name, types::Expected::Any, NOT_OPEN))
+        directories::unlink(volume, layout, ROOT, name, types::Expected::Any, NOT_OPEN).map_err(u32::from)
     }
 
     fn remove(volume: &mut [u8], node: u64) -> Answer {
         let layout = volume::read_layout(volume);
-        Self::told(directories::remove(volume, layout, node))
+        directories::remove(volume, layout, node).map_err(u32::from)
     }
 }
 

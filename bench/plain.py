@@ -9,18 +9,23 @@ import sys
 
 TOP = pathlib.Path(__file__).resolve().parent.parent
 
-# What only the check reads, a line each.
-GHOST = re.compile(r"ghost use .*;|#!\[tactic\(auto\)\]")
-CLAUSE = re.compile(r"    (requires|ensures)( \w+)? \{ .* \}")
+# What only the check reads, a line each; the terms of the second kind are one pair of braces, to the end of the line.
+GHOST = re.compile(r"ghost use [^;]*;|use std::marker::Model;|#!?\[tactic\([^][]*\)\]|#\[derive\(Drop\)\]")
+TERM = re.compile(r"(?:requires|ensures)(?: \w+)? (\{.*\})|ghost \w+ = (\{.*\});")
 LEFT_OVER = re.compile(r"\b(ghost|requires|ensures|tactic)\b")
+
+# What is left of an `impl Model`, whose members all were ghost.
+MODEL = re.compile(r"^impl(<[^<>]*>)? Model for [^{}]* \{\s*\}\n", re.MULTILINE)
 
 COMMENT = re.compile(r"\s*//")
 
-# `a[i] =`, `a[i] +=`, `&mut a[i..j]`; and what then is left, `a[i]`.
-INDEX = r"(\w+)\[([^][]+)\]"
+# `a.b[i] =`, `a[i] +=`, `a[i..j].fill(`, `&mut a[i..j]`; and what then is left, `a[i]`, `a.b()[i]`.
+INDEX = r"(?<![\w.)])((?:\w+(?:\(\))?\.)*\w+(?:\(\))?)\[([^][]+)\]"
 WRITTEN = re.compile(INDEX + r"(?= \+?= )")
+CHANGED = re.compile(INDEX + r"(?=\.(?:copy_from_slice|fill)\()")
 LENT = re.compile(r"&mut " + INDEX)
 READ = re.compile(INDEX)
+TESTED = re.compile(r"[\w)\]}?]\[")
 
 
 def listed():
@@ -29,10 +34,26 @@ def listed():
     return {name.split()[0]: needed.split() for name, needed in (line.split(":") for line in lines)}
 
 
+def is_term(text):
+    """Whether a text is one pair of braces with what lies between them."""
+    depth = 0
+    for at, letter in enumerate(text, 1):
+        depth += (letter == "{") - (letter == "}")
+        if depth == 0:
+            return at == len(text)
+    return False
+
+
+def is_ghost(line):
+    term = TERM.fullmatch(line)
+    return is_term(term[1] or term[2]) if term else GHOST.fullmatch(line)
+
+
 def untested(line):
     """A line whose indexes are taken as they are."""
     line = LENT.sub(r"unsafe { \1.get_unchecked_mut(\2) }", line)
     line = WRITTEN.sub(r"*unsafe { \1.get_unchecked_mut(\2) }", line)
+    line = CHANGED.sub(r"unsafe { \1.get_unchecked_mut(\2) }", line)
     return READ.sub(r"(*unsafe { \1.get_unchecked(\2) })", line)
 
 
@@ -40,12 +61,13 @@ def plain(path):
     """The Rust of a source file."""
     kept = []
     for line in path.read_text().splitlines():
-        if GHOST.fullmatch(line) or CLAUSE.fullmatch(line) or COMMENT.match(line):
+        if is_ghost(line.strip()) or COMMENT.match(line):
             continue
-        if LEFT_OVER.search(line):
+        rust = untested(line)
+        if LEFT_OVER.search(line) or TESTED.search(rust):
             sys.exit(f"{path}: not understood: {line}")
-        kept.append(untested(line))
-    return "\n".join(kept) + "\n"
+        kept.append(rust)
+    return MODEL.sub("", "\n".join(kept) + "\n")
 
 
 def write_crate(out, name):

@@ -75,7 +75,13 @@ fn is_first(words: &[u8], i: usize) -> bool
     ensures { result ≡ upto i (λ j. not (eqb (free_word words.now j) (free_word words.now i))) }
 {
     let pointer = get_ptr(words, i);
-    (0..i).all(|j| get_ptr(words, j) != pointer)
+    // A loop: `(0..i).all(..)` has to keep apart how it ended and takes half as long again, with as many pairs as there may be.
+    for j in 0..i {
+        if get_ptr(words, j) == pointer {
+            return false;
+        }
+    }
+    true
 }
 
 // Whether no free pointer stands twice.

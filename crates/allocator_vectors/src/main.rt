@@ -6,7 +6,7 @@ ghost use Rattle.std.specs.Prelude.{◌≡◌, true, ◌+◌, ◌*◌, ◌^◌, 
 ghost use Rattle.allocator.specs.Words.{WordsFormed, Takable};
 
 use std::io;
-use vectors::Numbers;
+use vectors::{Lossy, Numbers};
 
 // What a line starts with.
 const BEGIN: u64 = 1;
@@ -51,9 +51,10 @@ struct Run {
     differs: Option<usize>,
 }
 
-fn main(rt: HostRuntime) -> io::Result<()> {
-    let text = vectors::read_text(&rt)?;
-    replay(&rt, &text)
+fn main(rt: HostRuntime) {
+    let mut room = vectors::blank();
+    let (text, _) = vectors::read_text(&mut rt.stdin(), &mut room);
+    let _ = replay(&Lossy(rt), text);
 }
 
 // The runs up to a line that begins none.
@@ -99,15 +100,27 @@ fn replay_steps(numbers: &mut Numbers<'_>, words: &mut [u8], expected: &mut [u8]
     requires { length numbers.old < 2 ^ 64 }
     ensures { result.steps + length numbers.new ≤ length numbers.old }
 {
-    let mut steps = 0;
-    let mut differs = None;
+    let mut run = Run {
+        steps: 0,
+        differs: None,
+    };
     while let Some(step) = read_step(numbers) {
         read_words(numbers, expected);
-        steps += 1;
-        if differs.is_none() && !agrees(words, step, expected) {
-            differs = Some(steps);
-        }
+        run = replay_step(run, words, step, expected);
     }
+    run
+}
+
+// The run with one step more.
+fn replay_step(before: Run, words: &mut [u8], step: Step, expected: &[u8]) -> Run
+    requires { before.steps + 1 < 2 ^ 64 }
+    ensures { result.steps ≡ before.steps + 1 }
+{
+    let steps = before.steps + 1;
+    let differs = match before.differs {
+        None => (!agrees(words, step, expected)).then_some(steps),
+        earlier => earlier,
+    };
     Run { steps, differs }
 }
 

@@ -5,7 +5,7 @@
 ghost use Rattle.std.specs.Prelude.{◌≡◌, ◌≤◌, length};
 
 use std::io;
-use vectors::{MEMORY, Numbers};
+use vectors::{Lossy, Numbers};
 
 // What a line starts with. Any other number ends the text.
 const VOLUME: u64 = 1;
@@ -13,11 +13,17 @@ const VOLUME: u64 = 1;
 const CASE: u64 = 2;
 
 // Replays the standard input, in memories of zeros.
-fn main(rt: HostRuntime) -> io::Result<()> {
-    let text = vectors::read_text(&rt)?;
-    let mut volume = vec![in rt.alloc(); 0; MEMORY]?;
-    let mut memory = vec![in rt.alloc(); 0; MEMORY]?;
-    replay(&rt, &mut Numbers::new(&text), &mut volume, &mut memory)
+fn main(rt: HostRuntime) {
+    let mut room = vectors::blank();
+    let (text, _) = vectors::read_text(&mut rt.stdin(), &mut room);
+    let mut volume = vectors::blank_memory();
+    let mut memory = vectors::blank_memory();
+    let _ = replay(
+        &Lossy(rt),
+        &mut Numbers::new(text),
+        &mut volume,
+        &mut memory,
+    );
 }
 
 // The volumes and cases of the text, one after the other. A case is lent as many bytes as it asks for; one that asks for too many is the

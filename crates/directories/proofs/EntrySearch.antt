@@ -4,6 +4,7 @@ use Rattle.std.specs.Prelude.{Some, None, Result, Ok, Err}
 use mathlib.Core.Path.{◌≡◌, refl, sym, ap, ◌∙◌}
 use mathlib.Core.Bool.{Bool, true, false}
 use mathlib.Core.List.{List, []}
+use mathlib.Core.Logic.{◌⊎◌, inl, inr}
 use mathlib.Core.Option.{Option, none, some}
 use Prim.Native.Nat.{ℕ, ◌+◌, ◌-◌, ◌≤◌, ◌<◌, min}
 use native.Mathlib.Omega.{arith}
@@ -11,6 +12,7 @@ use native.Mathlib.Decide.{dec_lt}
 use lib.Dec.{eqb, ltb}
 use lib.ListN.{length, drop, length-drop}
 use borrow.Author.Tests.{eq-eqb, ne_eqb, lt-ltb, le-ltb, ltb-true}
+use denote.Enum.Declared.{tag_of}
 use Rattle.words.specs.Rules.{pick, same}
 use Rattle.words.specs.Tables.{lead, Asc}
 use Rattle.words.proofs.Joined.{both_true}
@@ -29,6 +31,7 @@ use Rattle.tables.proofs.TableSearch.{node-found, node-absent}
 use Rattle.names.specs.Listing.{on_directory}
 use Rattle.directories.specs.declared.searching.Searched.{Searched}
 use Rattle.directories.specs.declared.searching.Searched.TheVariants.{At, Absent, Stopped}
+use Rattle.directories.specs.contracts.searching.Searched as SearchedType
 use Rattle.directories.specs.Searches.{directory_there, other_name, entry_there, searched_from, searched, found_from, entry_found, next_in}
 
 -- ---- as code finds it
@@ -99,6 +102,11 @@ module _ (d : ℕ) (name : List ℕ) (from most : ℕ) (es : List Entry) {first 
       search-on t =
           let f : other_name d name (entry_at es i) ≡ true = sym (go_on _ _ (rw (← p) (eq-eqb x d e)) (rw (← q, t) refl)) in
           walk_turn (other_name d name) (read_entry []) es first i so_far l h refl f
+
+-- what a search gave that found no entry, by its tag
+not_at : {s : Searched} {p k : ℕ} → s ≡ At p k → (tag_of SearchedType.the_type s ≡ 1) ⊎ (tag_of SearchedType.the_type s ≡ 2) → ⊥
+not_at q (inl t) = let x : ◌≡◌ {A = ℕ} 0 1 = ap (tag_of SearchedType.the_type) (sym q) ∙ t in omega arith
+not_at q (inr t) = let x : ◌≡◌ {A = ℕ} 0 2 = ap (tag_of SearchedType.the_type) (sym q) ∙ t in omega arith
 
 -- ---- with a limit of as many as there are rows, as code finds the entry that has a name
 

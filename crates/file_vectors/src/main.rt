@@ -7,7 +7,7 @@ ghost use Rattle.std.specs.Prelude.{◌≤◌, ◌<◌, length, IsSome};
 
 use std::io;
 use types::{Error, WORD};
-use vectors::{BUFFER, Call, MEMORY, Numbers};
+use vectors::{Call, Lossy, Numbers};
 
 // What a line starts with. Any other number ends the text.
 const VOLUME: u64 = 1;
@@ -34,11 +34,17 @@ enum Kind {
     SetLimit,
 }
 
-fn main(rt: HostRuntime) -> io::Result<()> {
-    let text = vectors::read_text(&rt)?;
-    let mut memory = vec![in rt.alloc(); 0; MEMORY]?;
-    let mut buffer = vec![in rt.alloc(); 0; BUFFER]?;
-    replay(&rt, &mut Numbers::new(&text), &mut memory, &mut buffer)
+fn main(rt: HostRuntime) {
+    let mut room = vectors::blank();
+    let (text, _) = vectors::read_text(&mut rt.stdin(), &mut room);
+    let mut memory = vectors::blank_memory();
+    let mut buffer = vectors::blank_buffer();
+    let _ = replay(
+        &Lossy(rt),
+        &mut Numbers::new(text),
+        &mut memory,
+        &mut buffer,
+    );
 }
 
 // The runs up to a line that begins none, each with a volume that is lent as many bytes as it has.

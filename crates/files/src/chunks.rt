@@ -36,7 +36,7 @@ fn fill_chunk(chunk: &mut [u8], from: usize, bytes: &[u8])
 {
     let rest = from + bytes.len();
     chunk[..from].fill(0);
-    chunk[from..rest].copy_from_slice(bytes);
+    words::copy(chunk, from, bytes);
     chunk[rest..].fill(0);
 }
 
@@ -72,24 +72,25 @@ pub fn take_chunk(
 }
 
 // Puts bytes into the chunk that a pointer tells, from a byte of it on.
-fn put_piece(volume: &mut [u8], layout: Layout, pointer: u64, from: usize, bytes: &[u8])
-    requires { Ready volume.old layout × (pointer + from + length bytes.now ≤ length (shown volume.old).store.bytes) }
+fn put_piece(volume: &mut [u8], layout: Layout, span: u64, pointer: u64, from: usize, bytes: &[u8])
+    requires { Ready volume.old layout × (pointer + (shown volume.old).store.allocator.chunk_size ≤ length (shown volume.old).store.bytes) × (from + length bytes.now ≤ (shown volume.old).store.allocator.chunk_size) × IsSpan (shown volume.old).store span }
     ensures { volume.new ≡ laid (on_store (with_bytes (over (shown volume.old).store.bytes (pointer + from) bytes.now)) (shown volume.old)) }
 {
-    let at = layout.area + pointer as usize + from;
-    volume[at..at + bytes.len()].copy_from_slice(bytes);
+    let at = layout.area + pointer as usize;
+    words::copy(&mut volume[at..at + span as usize], from, bytes);
 }
 
 // Puts bytes into the chunk of the row behind a gap in the rows, and writes that row at the gap's first place.
 pub fn keep_chunk(
     volume: &mut [u8],
     layout: Layout,
+    span: u64,
     place: usize,
     gap: usize,
     from: usize,
     bytes: &[u8],
 )
-    requires { Gapped volume.old layout place gap × (place + gap < length (shown volume.old).store.chunks) × ((chunk_at (shown volume.old).store.chunks (place + gap)).pointer + (shown volume.old).store.allocator.chunk_size ≤ length (shown volume.old).store.bytes) × (from + length bytes.now ≤ (shown volume.old).store.allocator.chunk_size) }
+    requires { Gapped volume.old layout place gap × (place + gap < length (shown volume.old).store.chunks) × ((chunk_at (shown volume.old).store.chunks (place + gap)).pointer + (shown volume.old).store.allocator.chunk_size ≤ length (shown volume.old).store.bytes) × (from + length bytes.now ≤ (shown volume.old).store.allocator.chunk_size) × IsSpan (shown volume.old).store span }
     ensures { Gapped volume.new layout (place + 1) gap × (closed (place + 1) gap volume.new ≡ on_store (with_bytes (over (shown volume.old).store.bytes ((chunk_at (shown volume.old).store.chunks (place + gap)).pointer + from) bytes.now)) (closed place gap volume.old)) }
 {
     let tables = Tables {
@@ -97,7 +98,7 @@ pub fn keep_chunk(
         layout,
     };
     let row = tables.chunk_row(place + gap);
-    put_piece(volume, layout, row.pointer, from, bytes);
+    put_piece(volume, layout, span, row.pointer, from, bytes);
     if gap == 0 {
         return;
     }
@@ -109,6 +110,7 @@ pub fn clear_rest(volume: &mut [u8], layout: Layout, span: u64, pointer: u64, fr
     requires { Ready volume.old layout × (pointer + (shown volume.old).store.allocator.chunk_size ≤ length (shown volume.old).store.bytes) × (from ≤ (shown volume.old).store.allocator.chunk_size) × IsSpan (shown volume.old).store span }
     ensures { volume.new ≡ laid (on_store (with_bytes (over (shown volume.old).store.bytes (pointer + from) (zeros ((shown volume.old).store.allocator.chunk_size - from)))) (shown volume.old)) }
 {
+    let whole = span as usize;
     let at = layout.area + pointer as usize;
-    volume[at + from..at + span as usize].fill(0);
+    words::clear(&mut volume[at..at + whole], from, whole - from);
 }

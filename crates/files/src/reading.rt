@@ -44,7 +44,8 @@ fn read_piece(
     let chunk = tables.chunk_row(place);
     let area = tables.area();
     let from = (chunk.pointer + offset % span) as usize;
-    out.copy_from_slice(&area[from..from + out.len()]);
+    let whole = out.len();
+    words::copy(out, 0, &area[from..from + whole]);
     place + 1
 }
 

@@ -113,7 +113,7 @@ fn write_chunk(
         layout,
     };
     if is_row(&tables, place + gap, node, index) {
-        keep_chunk(volume, layout, place, gap, from, part);
+        keep_chunk(volume, layout, span, place, gap, from, part);
         return gap;
     }
     take_chunk(volume, layout, span, node, index, place, gap, from, part)

@@ -1,6 +1,6 @@
 -- The outcome of each call, by what the check says of the memory; and that it is the only one.
 -- Assumes nothing.
-use Rattle.std.specs.Prelude.{Result, Ok, Err, IsErrAnd}
+use Rattle.std.specs.Prelude.{Option, None, Result, Ok, Err, IsErrAnd}
 use mathlib.Core.Path.{◌≡◌, refl, sym, ap, ◌∙◌}
 use mathlib.Core.Bool.{Bool, true, false}
 use mathlib.Core.List.{List}
@@ -141,8 +141,11 @@ module _ (start : ℕ) (path : List ℕ) (byte opens : ℕ) (l : List ℕ) where
   abbrev wanted : Step
   wanted = unlink_wanted start path byte opens (shown l)
 
-  pub wanted-unknown : {e : Error} → MeansExpected byte (Err e) → laid (shown l) ≡ l → (Err e ≡ wanted.answer) × (l ≡ laid wanted.after)
-  wanted-unknown h k = let n = or-refused (wanted_of byte) InvalidArgument h in rw (n.0, n.1) (refl, sym k)
+  pub wanted-unknown : (w : Option Expected) → w ≡ None → w ≡ wanted_of byte → laid (shown l) ≡ l → (Err InvalidArgument ≡ wanted.answer) × (l ≡ laid wanted.after)
+  wanted-unknown w t e h = rw (sym e ∙ t) (refl, sym h)
+
+  pub wanted-refused : {e : Error} → MeansExpected byte (Err e) → laid (shown l) ≡ l → (Err e ≡ wanted.answer) × (l ≡ laid wanted.after)
+  wanted-refused h k = let n = or-refused (wanted_of byte) InvalidArgument h in rw n.1 (wanted-unknown (wanted_of byte) n.0 refl k)
 
   pub wanted-known : {want : Expected} {r : Answer} {m : List ℕ} → MeansExpected byte (Ok want)
       → (r ≡ (name_step (Unlinking.unlink start path want opens) (shown l)).answer) × (m ≡ laid (name_step (Unlinking.unlink start path want opens) (shown l)).after) → (r ≡ wanted.answer) × (m ≡ laid wanted.after)

@@ -1,26 +1,56 @@
 // The report's text: lines `key=value`, in decimal.
 ghost use Rattle.std.specs.Prelude.{◌≡◌, ◌+◌, ◌≤◌, ◌<◌, length};
 ghost use Rattle.words.specs.Bytes.{over};
-ghost use Rattle.lentilraft.specs.Report.{line, size_lines, row_lines, next_lines, text};
+ghost use Rattle.lentilraft.specs.Report.{digits, width, line, size_lines, row_lines, next_lines, text};
 
-use itoa::Buffer;
 use tables::Tables;
 
+const BASE: u64 = 10;
+
+// `0` and the newline.
+const ZERO: u8 = 48;
+
 const NEWLINE: u64 = 10;
+
+// How many decimal digits a number has.
+fn places(n: u64) -> usize
+    ensures { (result ≡ width 20 n) × (1 ≤ result) × (result ≤ 20) }
+{
+    let mut k = 1;
+    let mut rest = n;
+    while BASE <= rest {
+        rest /= BASE;
+        k += 1;
+    }
+    k
+}
+
+// Puts the last k digits of a number from index at. Each is put where it goes: digits printed into an array, as by the kit's `itoa`, would be
+// copied from there by `memcpy`, and the library for C needs nothing of the C library but `memset`.
+fn put_digits(out: &mut [u8], at: usize, k: usize, n: u64)
+    requires { at + k ≤ length out.old }
+    ensures { out.new ≡ over out.old at (digits k n) }
+{
+    let mut i = k;
+    let mut rest = n;
+    while 0 < i {
+        i -= 1;
+        out[at + i] = ZERO + (rest % BASE) as u8;
+        rest /= BASE;
+    }
+}
 
 // Puts a line from index at, and answers the index behind it.
 fn put_line(out: &mut [u8], at: usize, key: &[u8], n: u64) -> usize
     requires { at + length key.now + 21 ≤ length out.old }
     ensures { (result ≡ at + length (line key.now n)) × (result ≤ at + length key.now + 21) × (out.new ≡ over out.old at (line key.now n)) }
 {
-    let mut buffer = Buffer::new();
-    let digits = buffer.format(n).as_bytes();
     let start = at + key.len();
-    let end = start + digits.len();
+    let k = places(n);
     words::copy(out, at, key);
-    words::copy(out, start, digits);
-    words::put::<1>(out, end, NEWLINE);
-    end + 1
+    put_digits(out, start, k, n);
+    words::put::<1>(out, start + k, NEWLINE);
+    start + k + 1
 }
 
 // The form, the chunk size and its exponent.

@@ -2,12 +2,12 @@
 // oracle/README.md tells what each line means.
 #![tactic(auto)]
 
-ghost use Rattle.std.specs.Prelude.{◌+◌, ◌≤◌, length};
+ghost use Rattle.std.specs.Prelude.{◌≡◌, ◌+◌, ◌^◌, ◌≤◌, ◌<◌, length};
 ghost use Rattle.paths.specs.Shown.{BoundsFit};
 
 use std::io;
 use types::{MOST_PARTS, MOST_PATH};
-use vectors::Numbers;
+use vectors::{Lossy, Numbers};
 
 // What the line of a path starts with.
 const PATH: u64 = 1;
@@ -19,29 +19,54 @@ enum Verdict {
     Refused,
 }
 
+// How many paths were read, and how many of them are refused.
+#[derive(Clone, Copy)]
+struct Totals {
+    paths: usize,
+    refused: usize,
+}
+
 // A line that says something else than what comes of its path.
 #[derive(Clone, Copy)]
 struct Differs;
 
-fn main(rt: HostRuntime) -> io::Result<()> {
-    let text = vectors::read_text(&rt)?;
-    replay(&rt, &text)
+fn main(rt: HostRuntime) {
+    let mut room = vectors::blank();
+    let (text, _) = vectors::read_text(&mut rt.stdin(), &mut room);
+    let _ = replay(&Lossy(rt), text);
 }
 
 // The paths up to a line that is none, or up to the first that differs.
 fn replay(rt: &impl Print, text: &[u8]) -> io::Result<()> {
     let mut numbers = Numbers::new(text);
-    let mut paths: usize = 0;
-    let mut refused: usize = 0;
+    let mut totals = Totals {
+        paths: 0,
+        refused: 0,
+    };
     while numbers.number() == PATH {
-        paths += 1;
-        match check_line(&mut numbers) {
-            Ok(Verdict::Cut) => {}
-            Ok(Verdict::Refused) => refused += 1,
-            Err(Differs) => return println!(rt; "path {paths} differs"),
-        }
+        let Ok(verdict) = check_line(&mut numbers) else {
+            return println!(rt; "path {} differs", totals.paths + 1);
+        };
+        totals = counted(totals, verdict);
     }
-    println!(rt; "paths {paths}, refused {refused}")
+    println!(rt; "paths {}, refused {}", totals.paths, totals.refused)
+}
+
+// With one path more.
+fn counted(before: Totals, verdict: Verdict) -> Totals
+    requires room { before.paths + 1 < 2 ^ 64 }
+    requires some { before.refused ≤ before.paths }
+    ensures paths { result.paths ≡ before.paths + 1 }
+    ensures some { result.refused ≤ result.paths }
+{
+    let refused = match verdict {
+        Verdict::Cut => before.refused,
+        Verdict::Refused => before.refused + 1,
+    };
+    Totals {
+        paths: before.paths + 1,
+        refused,
+    }
 }
 
 // A line from the length of its path on. A path that is longer than any allowed counts as a difference.

@@ -26,7 +26,7 @@ use Rattle.paths.specs.Shown.{Cut, Cutout, cutout, shown_from, shown_parts, show
 use Rattle.paths.proofs.Sorts.{Sorted, is-dropped, is-upward, is_plain_name, sorted}
 use Rattle.paths.proofs.Names.{kept-some}
 use Rattle.paths.proofs.Splitting.{split-some}
-use Rattle.paths.proofs.Walk.{bounds}
+use Rattle.paths.proofs.LeftWalk.{bounds}
 use Rattle.paths.proofs.Shown.{length-shown, shown-less, shown-kept, Lie, pieces-lie}
 
 -- the case of an outcome is the case of the definition

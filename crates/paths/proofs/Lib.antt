@@ -1,8 +1,10 @@
 pub mod Sorts
 pub mod Names
 pub mod Splitting
-pub mod Walk
 pub mod Pieces
+pub mod Dots
+pub mod LeftWalk
+pub mod Walk
 pub mod Shown
 pub mod Bounds
 pub mod PartNames

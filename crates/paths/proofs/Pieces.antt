@@ -2,16 +2,16 @@
 -- Assumes nothing.
 use Rattle.std.specs.Prelude.{Ok, Err}
 use mathlib.Core.Path.{◌≡◌, refl, sym, ap, ◌∙◌}
-use mathlib.Core.Bool.{true, false}
+use mathlib.Core.Bool.{Bool, true, false}
 use mathlib.Core.List.{List, [], ◌∷◌, ◌++◌, append-nil}
-use Prim.Native.Nat.{ℕ, ◌+◌, ◌-◌, ◌≤◌, ◌<◌}
+use Prim.Native.Nat.{ℕ, suc, ◌+◌, ◌-◌, ◌≤◌, ◌<◌}
 use native.Mathlib.Numerals.{add-one}
 use native.Mathlib.Omega.{arith}
 use native.Mathlib.Decide.{dec_lt}
 use lib.Dec.{eqb, ltb}
-use borrow.Author.Tests.{eq-eqb, ne_eqb, lt-ltb, le-ltb, not-true}
-use lib.ListN.{length, drop, get_or, set, drop_of_length-le}
-use lib.Seq.{drop-cons}
+use borrow.Author.Tests.{eq-eqb, ne_eqb, eqb-true, lt-ltb, le-ltb, not-true}
+use lib.ListN.{length, take, drop, get_or, set, length-drop, drop_of_length-le}
+use lib.Seq.{drop-cons, get_or-drop}
 use Rattle.words.specs.Bytes.{part}
 use Rattle.words.specs.Rules.{pick, both}
 use Rattle.words.proofs.Joined.{both_true}
@@ -70,6 +70,45 @@ left-more path at n within whole closed = here ∙ go (dec_lt (at + n) (length p
     go (no h) =
         let d : drop (at + n) path ≡ [] = drop_of_length-le path (omega arith) in
         rw (d, left-none path (at + n + 1) (omega arith), append-nil) (split-whole (part path at n) whole)
+
+-- ---- the first of them
+
+-- l begins with the whole piece p
+record Begins (l p : List ℕ) : Type 0 where
+  within : length p ≤ length l
+  stands : take (length p) l ≡ p
+  whole : no_slash p ≡ true
+  closed : length p < length l → get_or l (length p) 0 ≡ slash
+
+begins-cons : (b : ℕ) (l : List ℕ) (ps : List (List ℕ)) (t : Bool) → eqb b slash ≡ t → 0 < length ps → Begins l (get_or ps 0 []) → Begins (b ∷ l) (get_or (cons b ps) 0 [])
+unfolding cons pick no_slash both
+begins-cons b l [] t e s h = absurd (omega arith)
+begins-cons b l (p ∷ ps) true e s h = rw e (record { within = omega arith; stands = refl; whole = refl; closed = λ k. eqb-true b slash e })
+begins-cons b l (p ∷ ps) false e s h = rw e (record { within = omega (arith, h.within); stands = ap (λ m. b ∷ m) h.stands; whole = rw (e, h.whole) refl; closed = λ k. h.closed (omega arith) })
+
+begins : (l : List ℕ) → Begins l (get_or (split l) 0 [])
+unfolding split no_slash
+begins [] = record { within = omega arith; stands = refl; whole = refl; closed = λ k. absurd (omega arith) }
+begins (b ∷ l) = begins-cons b l (split l) (eqb b slash) refl (split-some l) (begins l)
+
+begins-at : (path : List ℕ) (at : ℕ) (p : List ℕ) → Begins (drop at path) p → part path at (length p) ≡ p
+unfolding part
+begins-at path at p b = b.stands
+
+-- it stands in the path, and the others behind it
+pub left-first : (path : List ℕ) (at : ℕ) (p : List ℕ) (ps : List (List ℕ)) → left path at ≡ p ∷ ps → (at + length p ≤ length path) × (ps ≡ left path (at + length p + 1))
+left-first path at p ps e = go (dec_lt (length path) at)
+  where
+    go : Dec (length path < at) → (at + length p ≤ length path) × (ps ≡ left path (at + length p + 1))
+    go (yes k) = let z : ◌≡◌ {A = ℕ} 0 (suc (length ps)) = ap length (sym (left-none path at k) ∙ e) in absurd (omega arith)
+    go (no k) =
+        let first : get_or (split (drop at path)) 0 [] ≡ p = ap (λ l. get_or l 0 []) (sym (left_in path at (omega arith)) ∙ e) in
+        let b : Begins (drop at path) p = rw first at (begins (drop at path)) in
+        let n : length (drop at path) ≡ length path - at = length-drop at path in
+        let within : at + length p ≤ length path = omega (arith, b.within) in
+        let stands : part path at (length p) ≡ p = begins-at path at p b in
+        let more = left-more path at (length p) within (rw stands b.whole) (λ h. sym (get_or-drop at path (length p) 0) ∙ b.closed (omega arith)) in
+        (within, ap (drop 1) (sym e ∙ more))
 
 -- ---- what a piece of each sort makes of the bounds
 

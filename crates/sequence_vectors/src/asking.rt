@@ -1,4 +1,6 @@
 // A drawn call, and what it answers.
+ghost use Rattle.std.specs.Prelude.{◌≤◌};
+
 use crate::draws::{Draw, Kind, SELDOM, is_rare};
 use crate::{draws, showing};
 use std::io;
@@ -70,7 +72,9 @@ fn tell(
 }
 
 // The greatest number that a node got.
-fn last_node(volume: &[u8]) -> u32 {
+fn last_node(volume: &[u8]) -> u32
+    ensures { result ≤ 4095 }
+{
     let Some(header) = volume.get(..volume::ALLOCATOR) else {
         return 0;
     };

@@ -10,7 +10,7 @@ ghost use Rattle.std.specs.Prelude.{◌≤◌, length};
 
 use crate::draws::Draw;
 use std::io;
-use vectors::{BUFFER, MEMORY, Numbers};
+use vectors::{Lossy, Numbers};
 
 // What a line starts with. Any other number ends the text.
 const SEQUENCE: u64 = 1;
@@ -27,11 +27,17 @@ struct Sequence {
     span: u64,
 }
 
-fn main(rt: HostRuntime) -> io::Result<()> {
-    let text = vectors::read_text(&rt)?;
-    let mut memory = vec![in rt.alloc(); 0; MEMORY]?;
-    let mut buffer = vec![in rt.alloc(); 0; BUFFER]?;
-    replay(&rt, &mut Numbers::new(&text), &mut memory, &mut buffer)
+fn main(rt: HostRuntime) {
+    let mut room = vectors::blank();
+    let (text, _) = vectors::read_text(&mut rt.stdin(), &mut room);
+    let mut memory = vectors::blank_memory();
+    let mut buffer = vectors::blank_buffer();
+    let _ = replay(
+        &Lossy(rt),
+        &mut Numbers::new(text),
+        &mut memory,
+        &mut buffer,
+    );
 }
 
 // The sequences up to a line that is none, each lent as many bytes as it asks for, and a buffer as long as the part of a file that is

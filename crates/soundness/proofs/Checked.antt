@@ -37,7 +37,7 @@ use Rattle.soundness.proofs.OwnerRules.{says-owned}
 
 -- ---- the rules, group by group
 
-says-ordered : (a : Names) → Says (Asc node_before a.nodes × Asc entry_before a.entries) (ordered a)
+pub says-ordered : (a : Names) → Says (Asc node_before a.nodes × Asc entry_before a.entries) (ordered a)
 unfolding ordered
 says-ordered a = says_both (says-node-order a.nodes) (says-entry-order a.entries)
 
@@ -85,7 +85,7 @@ says-good v pos room =
 size-there : (l : List ℕ) → Framed l → 0 < (shown l).store.allocator.chunk_size
 size-there l f = omega (arith, accepted-bounds (shown l).store.allocator.chunk_size (size-accepted l f))
 
-room-there : (l : List ℕ) → Framed l → (shown l).store.chunk_room ≤ 4096
+pub room-there : (l : List ℕ) → Framed l → (shown l).store.chunk_room ≤ 4096
 unfolding shown
 room-there l f = f.headed.placed.chunks.1
 

@@ -100,6 +100,12 @@ module _ (es : List Entry) (order : List ℕ) (n : ℕ) where
   pub place-split : {i : ℕ} → SplitsAt under n i → PlaceOf es order n i
   place-split s = record { bound = s.bound; before = s.holds; behind = s.fails }
 
+  -- those below low are, those from high on are not
+  pub record Between (low high : ℕ) : Type 0 where
+    pub bound : (low ≤ high) × (high ≤ n)
+    pub before : (p : ℕ) → p < low → under p ≡ true
+    pub behind : (p : ℕ) → high ≤ p → p < n → under p ≡ false
+
   module _ (o : InOrder es order n) where
     pub under-falls : FallsBelow under n
     under-falls = record { falls = λ p q h k e. go p q h k e (says-ltb p q) }
@@ -109,6 +115,9 @@ module _ (es : List Entry) (order : List ℕ) (n : ℕ) where
             false-says (says-before (entry_at es (row_at order q)) (entry_at es n))
             (λ z. false≢true (sym e ∙ before-trans (entry_at es (row_at order p)) (entry_at es (row_at order q)) (entry_at es n) (o.ascend p q b k) (true-says (says-before (entry_at es (row_at order q)) (entry_at es n)) z)))
         go p q h k e (fails b) = let z : q ≡ p = omega arith in rw z e
+
+    pub none_between : (low high : ℕ) → Between low high → high ≤ low → PlaceOf es order n low
+    none_between low high w h = record { bound = omega (arith, w.bound.0, w.bound.1); before = w.before; behind = λ p k b. w.behind p (omega arith) b }
 
     -- ---- whether the name is new there
 

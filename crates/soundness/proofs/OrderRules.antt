@@ -1,6 +1,6 @@
 -- What the tests of rows mean.
 -- Assumes nothing.
-use mathlib.Core.Path.{◌≡◌, refl}
+use mathlib.Core.Path.{◌≡◌, refl, ap, ◌∙◌}
 use mathlib.Core.Bool.{Bool, true, false, false≢true}
 use mathlib.Core.List.{List, [], ◌∷◌}
 use mathlib.Core.Option.{some}
@@ -9,7 +9,7 @@ use native.Mathlib.Omega.{arith}
 use lib.Dec.{eqb, ltb, leb}
 use lib.ListN.{length}
 use borrow.Author.Tests.{ne_eqb, le-leb}
-use Rattle.words.specs.Rules.{both, pick, times, Says, fails}
+use Rattle.words.specs.Rules.{both, pick, upto, times, Says, fails}
 use Rattle.words.specs.Tables.{Each, Asc, find}
 use Rattle.words.proofs.Order.{each_map}
 use Rattle.words.proofs.Middle.{each-pair}
@@ -27,6 +27,7 @@ use Rattle.volume.specs.Volume.{Names}
 use Rattle.volume.specs.Search.{pair_before}
 use Rattle.volume.specs.Sound.{node, DirectoryThere, naming, node_before, entry_before, chunk_before}
 use Rattle.volume.proofs.PairOrder.{says-pair, pair-trans}
+use Rattle.tables.specs.Tables.{node_at}
 use Rattle.soundness.specs.OrderRules.{nodes_ascend, entries_ascend, chunks_ascend, nodes_below, rooted, entry_numbered, entries_numbered}
 
 -- ---- orders
@@ -97,3 +98,9 @@ says-numbered es = says_map apart joined (each-places Numbered (read_entry []) e
         each_map _ Numbered (λ e k. (k.0, k.1.0, k.1.1)) es
         (each-pair (λ e. 1 ≤ e.index) (λ e. (eqb e.node 0 ≡ false) × (name_allowed e.name ≡ true)) es h.0
         (each-pair (λ e. eqb e.node 0 ≡ false) (λ e. name_allowed e.name ≡ true) es (pass-none (λ e. eqb e.node 0) es h.1) h.2))
+
+-- ---- the number that was read
+
+pub below_as : (rs : List NodeRecord) {m n : ℕ} {b : Bool} → m ≡ n → b ≡ upto (length rs) (λ i. ltb (node_at rs i).node m) → b ≡ nodes_below n rs
+unfolding nodes_below
+below_as rs {m} {n} e h = h ∙ ap (λ (k : ℕ). upto (length rs) (λ i. ltb (node_at rs i).node k)) e

@@ -23,18 +23,24 @@ use Rattle.types.specs.Sizes.{most_size}
 use Rattle.types.specs.declared.NodeRecord.{NodeRecord}
 use Rattle.types.proofs.Nodes.{says-directory}
 use Rattle.volume.specs.declared.ChunkRow.{ChunkRow}
+use Rattle.volume.specs.declared.Layout.{Layout}
 use Rattle.volume.specs.Rows.{read_node, read_chunk}
-use Rattle.volume.specs.Volume.{Names, Store}
+use Rattle.volume.specs.Volume.{Names, Store, shown}
 use Rattle.volume.specs.Framed.{NodeFits, NamesFits}
 use Rattle.volume.specs.Sound.{round_up, node, node_before, ChunkOwned, Owned, NodeGood, Named, ChunksOwned}
 use Rattle.volume.proofs.Rounding.{lt_up}
 use Rattle.tables.proofs.NodeRows.{size-most}
-use Rattle.tables.specs.Tables.{node_at, chunk_at, found_node, Found}
+use Rattle.tables.specs.Tables.{Ready, node_at, chunk_at, found_node, Found}
+use Rattle.tables.proofs.ReadyVolume.{rooms, count-bytes}
 use Rattle.tables.proofs.TableSearch.{node-found, node-absent}
 use Rattle.soundness.specs.EntryRules.{is_found}
 use Rattle.soundness.specs.OwnerRules.{tail_zero, owned_by, owned_where, row_owned, chunks_owned}
 
 -- ---- what the code finds
+
+-- the byte area, behind the tables
+pub chunk_inside : (l : List ℕ) (y : Layout) (r : Ready l y) (p s : ℕ) → p + s ≤ length (shown l).store.bytes → y.area + p + s ≤ length l
+chunk_inside l y r p s h = omega (arith, count-bytes l, rooms l y r)
 
 -- the size of a node is at most 2^40
 pub node-size : (a : Names) → NamesFits a → Named a → (i : ℕ) → i < length a.nodes → (node_at a.nodes i).size ≤ most_size

@@ -21,8 +21,12 @@ use Rattle.allocator.specs.Allocator.{Allocator, free, read_allocator}
 use Rattle.allocator.proofs.Accounts.{due-facts, due-one, due-none, due-most}
 use Rattle.allocator.specs.Words.{WordsFormed}
 use Rattle.allocator.proofs.OpenWords as OpenWords
+use Rattle.volume.specs.Header.{at_chunk_room}
 use Rattle.volume.specs.declared.ChunkRow.{ChunkRow}
+use Rattle.volume.specs.declared.Layout.{Layout}
 use Rattle.volume.specs.Rows.{read_chunk}
+use Rattle.volume.specs.Volume.{shown}
+use Rattle.tables.specs.Tables.{Ready}
 use Rattle.soundness.specs.PointerRules.{next_fits, unmarked, marks_after, all_markable, row_pointer, free_pointer, pointers_good}
 use Rattle.soundness.proofs.Marks.{Lined, Markable, Shows, shows-as, shows-none, place-due, all-met, met_all, says_all, shows-pass, all_first, markable-same}
 
@@ -155,6 +159,10 @@ module _ {a : Allocator} {w : List ℕ} (e : read_allocator w ≡ a) (f : WordsF
   -- as many as there are
   pub as_many : (q : ℕ) {used n count t : ℕ} → used ≡ n → count ≡ a.free_count → t ≡ q → eqb (used + count) t ≡ eqb (n + length (free a)) q
   as_many q h e f = rw (h, e, f, free-length)
+
+-- the free pointers of a volume: there is room for them
+count_fits : (l : List ℕ) (y : Layout) (r : Ready l y) → (shown l).store.allocator.free_count ≤ word l at_chunk_room
+count_fits l y r = unfold shown in r.formed.fits.store.free
 
 -- ---- for the code: numbers that it read
 

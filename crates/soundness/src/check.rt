@@ -1,5 +1,6 @@
 // The whole check: the frame, then nodes and entries, the chunk store, and the owners of the chunks; each in the scope's order.
-ghost use Rattle.std.specs.Prelude.{◌≡◌};
+ghost use Rattle.std.specs.Prelude.{◌≡◌, ◌≤◌, ◌<◌};
+ghost use Rattle.std.specs.Int.Count.{ones};
 ghost use Rattle.words.specs.Tables.{Asc};
 ghost use Rattle.volume.specs.Sound.{node_before};
 ghost use Rattle.soundness.specs.Checked.{ordered, numbered, related, named, stored, good, place_if_sound};
@@ -55,12 +56,12 @@ fn is_named(tables: &Tables) -> bool
     is_ordered(tables) && is_numbered(tables) && is_related(tables)
 }
 
-// Whether the rules of the chunk store hold: the rows' order, word 3, and the pointers.
+// Whether the rules of the chunk store hold: the rows' order, word 3, and the pointers. The chunk size was read.
 #[tactic(auto, using(crate::proofs::PointerRules::next_there), unfolding(words::specs::Rules::both, crate::specs::Checked::stored))]
-fn is_stored(tables: &Tables) -> bool
+fn is_stored(tables: &Tables, span: u64) -> bool
+    requires { (span ≡ tables.now.store.allocator.chunk_size) × (0 < span) × (span ≤ 65536) × (ones span ≡ 1) }
     ensures { result ≡ stored tables.now.store }
 {
-    let span = tables.chunk_size();
     let next = tables.max_ptr();
     let area = tables.area_size() as u64;
     let chunks = tables.chunk_room() as u64;
@@ -75,7 +76,8 @@ fn is_good(tables: &Tables) -> bool
     ensures { result ≡ good tables.now }
 {
     let _ = &tables.layout;
-    is_named(tables) && is_stored(tables) && is_owned(tables)
+    let span = tables.chunk_size();
+    is_named(tables) && is_stored(tables, span) && is_owned(tables, span)
 }
 
 // Opens a memory, of any length and content: where its areas start, if it is a sound volume.

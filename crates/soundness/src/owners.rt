@@ -41,12 +41,11 @@ fn owned_by(tables: &Tables, span: u64, row: ChunkRow, owner: NodeRecord) -> boo
 
 // The row of the owner of the chunk in row i, if it can have it, looked for near another row first. The rules of both halves hold already:
 // node rows ascend, and the chunk lies in the area.
-fn find_owner(tables: &Tables, i: usize, near: usize) -> Option<usize>
-    requires { Named tables.now.names × Stored tables.now.store × (i < length tables.now.store.chunks) × (near ≤ 4096) }
+fn find_owner(tables: &Tables, span: u64, i: usize, near: usize) -> Option<usize>
+    requires { Named tables.now.names × Stored tables.now.store × (span ≡ tables.now.store.allocator.chunk_size) × (0 < span) × (span ≤ 65536) × (ones span ≡ 1) × (i < length tables.now.store.chunks) × (near ≤ 4096) }
     ensures { (is_found result ≡ row_owned tables.now.names tables.now.store i) × ((k : ℕ) → result ≡ Some k → k < 4096) }
 {
     let _ = &tables.layout;
-    let span = tables.chunk_size();
     let row = tables.chunk_row(i);
     let k = find_near(tables, row.node, near)?;
     let owner = tables.node_row(k);
@@ -57,14 +56,14 @@ fn find_owner(tables: &Tables, i: usize, near: usize) -> Option<usize>
 }
 
 // Whether every chunk row has an owner that can have its chunk. Rows of one file follow one another.
-pub fn is_owned(tables: &Tables) -> bool
-    requires { Named tables.now.names × Stored tables.now.store }
+pub fn is_owned(tables: &Tables, span: u64) -> bool
+    requires { Named tables.now.names × Stored tables.now.store × (span ≡ tables.now.store.allocator.chunk_size) × (0 < span) × (span ≤ 65536) × (ones span ≡ 1) }
     ensures { result ≡ chunks_owned tables.now.names tables.now.store }
 {
     let used = tables.chunks_used();
     let mut near = 0;
     for i in 0..used {
-        let Some(owner) = find_owner(tables, i, near) else {
+        let Some(owner) = find_owner(tables, span, i, near) else {
             return false;
         };
         near = owner;

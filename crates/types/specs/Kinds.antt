@@ -1,6 +1,6 @@
 -- Believed: kinds as bytes. Of a node, in its row and in calls: 0 is a directory, 1 a regular file, 2 a symbolic link. Of what unlink is to expect: 0 any kind, 1 a directory, 2 a file.
 -- Assumes nothing.
-use Rattle.std.specs.Prelude.{◌≡◌, ℕ, Bool, true, false, eqb, Option, Some, None, Result}
+use Rattle.std.specs.Prelude.{◌≡◌, ℕ, ◌≤◌, Bool, true, false, eqb, Option, Some, None, Result}
 use Rattle.std.specs.Option.{ok_or}
 use Rattle.words.specs.Rules.{pick}
 use Rattle.types.specs.declared.FileType.{FileType}
@@ -36,7 +36,7 @@ abbrev pub MeansKind : ℕ → Result FileType Error → Type 0
 MeansKind b r = r ≡ ok_or (kind_of b) InvalidArgument
 
 abbrev pub SpelledAs : FileType → ℕ → Type 0
-SpelledAs kind b = b ≡ kind_byte kind
+SpelledAs kind b = (b ≡ kind_byte kind) × (b ≤ 2)
 
 abbrev pub MeansExpected : ℕ → Result Expected Error → Type 0
 MeansExpected b r = r ≡ ok_or (wanted_of b) InvalidArgument

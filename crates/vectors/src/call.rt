@@ -19,6 +19,20 @@ pub struct Call {
     pub seed: u64,
 }
 
+// Zeros, to make volumes in.
+pub fn blank_memory() -> [u8; MEMORY]
+    ensures { 1572864 ≡ length result }
+{
+    [0; MEMORY]
+}
+
+// Zeros, to read into, to write from, and to keep names and paths in.
+pub fn blank_buffer() -> [u8; BUFFER]
+    ensures { 262144 ≡ length result }
+{
+    [0; BUFFER]
+}
+
 impl Call {
     // The call that comes next.
     pub fn read(numbers: &mut Numbers<'_>) -> Call

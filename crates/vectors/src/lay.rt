@@ -20,18 +20,24 @@ fn lay_run(numbers: &mut Numbers<'_>, memory: &mut [u8])
 {
     let [start, count] = numbers.numbers::<2>();
     let mut at = start as usize;
+    // A reader of the function's own: one that is lent would be stored anew at each word.
+    let mut reader = numbers.copied();
     for _ in 0..count {
-        let word = numbers.number();
+        let word = reader.number();
         if has_room(memory, at) {
             words::put::<WORD>(memory, at, word);
             at += WORD;
         }
     }
+    *numbers = reader;
 }
 
 // Whether a word fits from index at on.
 fn has_room(memory: &[u8], at: usize) -> bool
     ensures { result ≡ true → at + 8 ≤ length memory.now }
 {
-    at.checked_add(WORD).is_some_and(|end| end <= memory.len())
+    memory
+        .len()
+        .checked_sub(WORD)
+        .is_some_and(|last| at <= last)
 }

@@ -7,14 +7,16 @@ mod call;
 mod input;
 mod lay;
 mod numbers;
+mod output;
 mod search;
 mod seed;
 mod sum;
 
-pub use call::{BUFFER, Call, MEMORY};
-pub use input::{ROOM, read_text};
+pub use call::{BUFFER, Call, MEMORY, blank_buffer, blank_memory};
+pub use input::{ROOM, blank, read_text};
 pub use lay::lay_runs;
 pub use numbers::Numbers;
+pub use output::Lossy;
 pub use search::{SearchNumbers, search_numbers};
 pub use seed::fill;
 pub use sum::checksum;

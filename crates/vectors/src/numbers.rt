@@ -1,12 +1,13 @@
 // The numbers of a text. A number past the last one is 0.
-ghost use Rattle.std.specs.Prelude.{◌≡◌, ◌+◌, ◌≤◌, ◌<◌, ◌++◌, ◌==◌, min, length, take, drop, position, unwrap_or, IfSome, SomeIff};
+ghost use Rattle.std.specs.Prelude.{◌≡◌, ◌+◌, ◌%◌, ◌≤◌, ◌<◌, ◌++◌, ◌==◌, min, map, length, take, drop, position, unwrap_or, IfSome, SomeIff};
 ghost use Rattle.vectors.specs.Scan.{is_digit, digit as Scan·digit, from_digit, past_digits, spelled, held};
 ghost use Rattle.vectors.specs.Scan.{number_at, next_at, numbers_at, after_at};
 
 use std::marker::Model;
 
-// A reader of numbers. A contract sees the bytes that it has left.
-#[derive(Drop)]
+// A reader of numbers. A contract sees the bytes that it has left. Today's Rattle has no Copy for a struct with a lifetime: `copied` gives
+// another reader.
+#[derive(Clone, Drop)]
 pub struct Numbers<'a> {
     rest: &'a [u8],
 }
@@ -26,7 +27,15 @@ impl<'a> Numbers<'a> {
         Numbers { rest: text }
     }
 
+    // Another reader of the bytes that are left.
+    pub fn copied(&self) -> Numbers<'a>
+        ensures { result ≡ self.now }
+    {
+        Numbers { rest: self.rest }
+    }
+
     // The next number, which stays the next.
+    #[tactic(auto, using(crate::proofs::Scanning::seen, crate::proofs::Scanning::unseen))]
     pub fn peek(&self) -> u64
         ensures found { result ≡ number_at self.now 0 }
         ensures past { length self.now ≡ 0 → result ≡ 0 }
@@ -52,15 +61,24 @@ impl<'a> Numbers<'a> {
         ensures behind { min N (length self.old) + length self.new ≤ length self.old }
     {
         let mut out = [0; N];
-        for x in out.iter_mut() {
-            *x = self.number();
-        }
+        self.numbers_into(&mut out);
         out
     }
 
-    // The next numbers as bytes, as many as out holds.
+    // The next numbers, as many as out holds.
+    pub fn numbers_into(&mut self, out: &mut [u64])
+        ensures found { (out.new ≡ numbers_at self.old 0 (length out.old)) × (self.new ≡ drop (after_at self.old 0 (length out.old)) self.old) }
+        ensures behind { min (length out.old) (length self.old) + length self.new ≤ length self.old }
+    {
+        for x in out.iter_mut() {
+            *x = self.number();
+        }
+    }
+
+    // The next numbers as bytes, as many as out holds, each modulo 256.
     pub fn bytes(&mut self, out: &mut [u8])
-        ensures { length self.new ≤ length self.old }
+        ensures found { (out.new ≡ map (λ n. n % 256) (numbers_at self.old 0 (length out.old))) × (self.new ≡ drop (after_at self.old 0 (length out.old)) self.old) }
+        ensures behind { min (length out.old) (length self.old) + length self.new ≤ length self.old }
     {
         for byte in out.iter_mut() {
             *byte = (self.number() % 256) as u8;
@@ -98,15 +116,14 @@ fn line_end(text: &[u8]) -> Option<usize>
 fn from_digit(text: &[u8]) -> &[u8]
     ensures { result.now ≡ from_digit text.now }
 {
-    let start = first_digit(text).unwrap_or(text.len());
-    &text[start..]
-}
-
-// The index of the first digit, if there is one.
-fn first_digit(text: &[u8]) -> Option<usize>
-    ensures { result ≡ position is_digit text.now }
-{
-    text.iter().position(|byte| is_digit(*byte))
+    let mut rest = text;
+    while let Some((byte, behind)) = rest.split_first() {
+        if is_digit(*byte) {
+            return rest;
+        }
+        rest = behind;
+    }
+    rest
 }
 
 // The number that the digits in front spell, modulo 2^64, and the text behind them.
@@ -115,13 +132,15 @@ fn spelled(text: &[u8]) -> (u64, &[u8])
     ensures rest { result.1.now ≡ past_digits text.now }
 {
     let mut value = 0u64;
-    for (i, byte) in text.iter().enumerate() {
+    let mut rest = text;
+    while let Some((byte, behind)) = rest.split_first() {
         let Some(digit) = digit(*byte) else {
-            return (value, &text[i..]);
+            return (value, rest);
         };
         value = value.wrapping_mul(16).wrapping_add(digit);
+        rest = behind;
     }
-    (value, &[])
+    (value, rest)
 }
 
 fn is_digit(byte: u8) -> bool

@@ -1,4 +1,4 @@
--- Laws of limits as bytes: the case that the flag means, and that nothing is lost from a case to its bytes and back.
+-- Laws of kinds and limits as bytes: the test of a kind's byte, the case that a limit's flag means, and that nothing is lost from a case to its bytes and back.
 -- Assumes nothing.
 use Rattle.std.specs.Prelude.{Some, None}
 use mathlib.Core.Path.{◌≡◌, refl, sym}
@@ -7,9 +7,16 @@ use Prim.Native.Nat.{ℕ, ◌≤◌}
 use native.Mathlib.Omega.{arith}
 use borrow.Author.Tests.{ne_eqb}
 use Rattle.words.specs.Rules.{pick}
+use Rattle.types.specs.Kinds.{Kind, kind_of, is_known}
 use Rattle.types.specs.Nodes.{Limit}
 use Rattle.types.specs.Nodes.{limit_word}
 use Rattle.volume.specs.Kinds.{limit_of, limit_flag}
+
+-- ---- a kind's byte
+
+-- the test of a byte that was read, by the case that it means
+pub known_as : {n b : ℕ} {kind case : Kind} → b ≡ n → kind ≡ kind_of b → kind ≡ case → is_known (kind_of n) ≡ is_known case
+known_as read means is = rw (← read, ← means, is)
 
 -- ---- the limit that bytes mean
 

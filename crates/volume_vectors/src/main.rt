@@ -6,7 +6,7 @@ ghost use Rattle.std.specs.Prelude.{◌+◌, ◌*◌, ◌≤◌, length};
 
 use std::io;
 use types::WORD;
-use vectors::{MEMORY, Numbers};
+use vectors::{Lossy, Numbers};
 
 // What a case starts with. Any other number ends the text.
 const NEW: u64 = 1;
@@ -26,10 +26,11 @@ struct Case {
     size: u64,
 }
 
-fn main(rt: HostRuntime) -> io::Result<()> {
-    let text = vectors::read_text(&rt)?;
-    let mut memory = vec![in rt.alloc(); 0; MEMORY]?;
-    replay(&rt, &mut Numbers::new(&text), &mut memory)
+fn main(rt: HostRuntime) {
+    let mut room = vectors::blank();
+    let (text, _) = vectors::read_text(&mut rt.stdin(), &mut room);
+    let mut memory = vectors::blank_memory();
+    let _ = replay(&Lossy(rt), &mut Numbers::new(text), &mut memory);
 }
 
 // The cases up to a line that is none, each lent as many bytes as it asks for.

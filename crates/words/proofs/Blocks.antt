@@ -1,17 +1,20 @@
--- Laws of `same` and `all_zero`: what they mean, and what they say of a part.
+-- Laws of `same` and `all_zero`: what they mean, what they say of a part, and what a comparison in blocks finds.
 -- Assumes nothing.
 use mathlib.Core.Path.{◌≡◌, refl, sym, ap, ◌∙◌}
 use mathlib.Core.Bool.{Bool, true, false}
 use mathlib.Core.List.{List, [], ◌∷◌, ◌++◌}
 use Prim.Native.Nat.{ℕ, zero, suc, ◌+◌, ◌-◌, ◌≤◌, ◌<◌}
+use native.Mathlib.Numerals.{add-one}
 use native.Mathlib.Omega.{arith}
 use lib.Dec.{eqb}
+use borrow.Author.Tests.{eq-eqb}
 use lib.ListN.{length, take, drop, get_or}
-use lib.Seq.{get_or-drop}
-use Rattle.words.specs.Bytes.{part, zeros}
+use lib.Seq.{take-add, take_all, take-suc, get_or-drop}
+use Rattle.words.specs.Bytes.{part, zeros, num, Bytes}
 use Rattle.words.specs.Rules.{both, same, Says, holds, fails}
 use Rattle.words.specs.Tests.{all_zero}
 use Rattle.words.proofs.Parts.{length_part}
+use Rattle.words.proofs.Numbers.{spell-num}
 use Rattle.words.proofs.Rules.{says-eqb, says_both, says_map, says-true, true-says}
 
 -- ---- same
@@ -32,6 +35,28 @@ same-no a b h = go (same a b) refl
     go : (t : Bool) → same a b ≡ t → false ≡ same a b
     go true e = absurd (h (says-true (says_same a b) e))
     go false e = sym e
+
+-- a whole list that was compared
+pub same_end : (a b : List ℕ) (i : ℕ) → length a ≡ length b → length a ≤ i → take i a ≡ take i b → true ≡ same a b
+same_end a b i n h e = same-yes a b (sym (take_all i a h) ∙ e ∙ take_all i b (rw (← n) h))
+
+pub same_turn : (a b : List ℕ) (i : ℕ) → i < length a → length a ≡ length b → take i a ≡ take i b → get_or a i 0 ≡ get_or b i 0 → take (i + 1) a ≡ take (i + 1) b
+same_turn a b i h n e g =
+    let k : i < length b = omega arith in
+    rw (add-one i, take-suc a i 0 h, take-suc b i 0 k, e, g)
+
+-- the words x and y that stand at i
+module _ (a b : List ℕ) (i : ℕ) {x y : ℕ} (p : x ≡ num 8 a i) (q : y ≡ num 8 b i) where
+  pub same_stop : (x ≡ y → ⊥) → false ≡ same a b
+  same_stop h = same-no a b (λ e. h (p ∙ ap (λ l. num 8 l i) e ∙ sym q))
+
+  pub same_word : Bytes a → Bytes b → i + 8 ≤ length a → length a ≡ length b → take i a ≡ take i b → x ≡ y → take (i + 8) a ≡ take (i + 8) b
+  unfolding part
+  same_word ba bb h n e g =
+      let k : i + 8 ≤ length b = omega arith in
+      let w : num 8 a i ≡ num 8 b i = sym p ∙ g ∙ q in
+      let m : part a i 8 ≡ part b i 8 = sym (spell-num 8 a i ba h) ∙ rw w (spell-num 8 b i bb k) in
+      rw (take-add i 8 a, take-add i 8 b, e, m)
 
 -- ---- all_zero
 
@@ -68,6 +93,14 @@ pub zero-append : (a b : List ℕ) → all_zero (a ++ b) ≡ both (all_zero a) (
 unfolding all_zero both
 zero-append [] b = refl
 zero-append (x ∷ a) b = rw (zero-append a b) (both-assoc (eqb x 0) (all_zero a) (all_zero b))
+
+-- a turn over a block of n bytes; x is zero where the block at i is
+module _ (l : List ℕ) (i n x : ℕ) (p : eqb x 0 ≡ all_zero (part l i n)) where
+  pub zero_turn : all_zero (take i l) ≡ true → x ≡ 0 → all_zero (take (i + n) l) ≡ true
+  unfolding part both
+  zero_turn h e =
+      let z : all_zero (part l i n) ≡ true = sym p ∙ eq-eqb x 0 e in
+      rw (take-add i n l, zero-append (take i l) (take n (drop i l)), h, z)
 
 -- ---- a part of a list that is tested
 

@@ -3,7 +3,8 @@
 use mathlib.Core.Path.{◌≡◌, refl}
 use mathlib.Core.Bool.{Bool, true, false, false≢true, true≢false}
 use mathlib.Core.Logic.{◌⊎◌, inl, inr}
-use Rattle.words.specs.Rules.{both, either}
+use Prim.Native.Nat.{ℕ, zero, suc}
+use Rattle.words.specs.Rules.{both, either, upto}
 
 pub both_false : (a : Bool) → both a false ≡ false
 unfolding both
@@ -24,3 +25,9 @@ pub either_true : (a b : Bool) → either a b ≡ true → (a ≡ true) ⊎ (b �
 unfolding either
 either_true true b h = inl refl
 either_true false b h = inr h
+
+-- a test that never fails
+pub upto_all : (n : ℕ) → upto n (λ _. true) ≡ true
+unfolding upto both
+upto_all zero = refl
+upto_all (suc n) = rw (upto_all n)

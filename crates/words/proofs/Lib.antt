@@ -1,5 +1,6 @@
 pub mod Parts
 pub mod Written
+pub mod WriteLoops
 pub mod Numbers
 pub mod Halves
 pub mod Joined

@@ -145,7 +145,17 @@ two l at a b n p q e h = q ∙ rw (p, e) (over-over l at a b h)
 pub before : (l : List ℕ) (at : ℕ) (a b : List ℕ) (n : ℕ) {m r : List ℕ} → m ≡ over l n b → r ≡ over m at a → n ≡ at + length a → at + length a + length b ≤ length l → r ≡ over l at (a ++ b)
 before l at a b n p q e h = q ∙ rw (p, e) (over-before l at a b h)
 
--- ---- one byte more
+-- ---- one byte more, as a turn of a loop writes it
+
+pub over-snoc : (l : List ℕ) (at : ℕ) (bs : List ℕ) (x : ℕ) → at + length bs < length l → set (over l at bs) (at + length bs) x ≡ over l at (bs ++ (x ∷ []))
+over-snoc l at bs x h =
+    set-over (over l at bs) (at + length bs) x (rw (length_over l at bs (omega arith)) h)
+    ∙ over-over l at bs (x ∷ []) (omega arith)
+
+pub over-cons : (l : List ℕ) (at : ℕ) (bs : List ℕ) (x : ℕ) → at + 1 + length bs ≤ length l → set (over l (at + 1) bs) at x ≡ over l at (x ∷ bs)
+over-cons l at bs x h =
+    set-over (over l (at + 1) bs) at x (rw (length_over l (at + 1) bs h) (omega arith))
+    ∙ over-before l at (x ∷ []) bs (omega arith)
 
 pub part-cons : (l : List ℕ) (at n : ℕ) → at < length l → part l at (n + 1) ≡ get_or l at 0 ∷ part l (at + 1) n
 unfolding part

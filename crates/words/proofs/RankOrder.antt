@@ -99,6 +99,11 @@ module _ (a b : List ℕ) (ba : Bytes a) (bb : Bytes b) where
     pub back-same : x ≡ y → drop (from + w * (i - 1)) a ≡ drop (from + w * (i - 1)) b
     back-same = those-same w (from + w * (i - 1)) within n behind p q
 
+  -- the same, for the w bytes before i
+  module _ (w i : ℕ) (l : w ≤ i) (h : i ≤ length a) (n : length a ≡ length b) (e : drop i a ≡ drop i b) {x y : ℕ} (p : x ≡ num w a (i - w)) (q : y ≡ num w b (i - w)) where
+    pub by_bytes : (x ≡ y → ⊥) → ltb x y ≡ ltb (rank a) (rank b)
+    by_bytes = let m : i - w + w ≡ i = omega arith in by-those w (i - w) (omega arith) n (rw m e) p q
+
   -- ---- equal ones
 
   values_same : length a ≡ length b → rank a ≡ rank b → little_endian a ≡ little_endian b

@@ -96,6 +96,14 @@ module _ {R : Type 0} (f : R → Bool) (read : List ℕ → R) (s : ℕ) (l : Li
       let p = split passes_at (record { told = t }) falls-places in
       (split-lead r p, p.bound)
 
+-- the rows before low pass the test, and those from high on fail it
+module _ {R : Type 0} (f : R → Bool) (read : List ℕ → R) (s : ℕ) (l : List ℕ) (base used : ℕ) where
+  abbrev pub Between : ℕ → ℕ → Type 0
+  Between low high = (low ≤ lead f (table read s l base used)) × (lead f (table read s l base used) ≤ high) × (high ≤ used)
+
+  pub none_between : (low high : ℕ) → Between low high → high ≤ low → (low ≡ lead f (table read s l base used)) × (low ≤ used)
+  none_between low high b h = omega arith
+
 -- ---- rows in order
 
 -- in ascending rows, once a row is not under a key, none behind it is

@@ -2,12 +2,15 @@
 ghost use Rattle.std.specs.Prelude.{◌≡◌, ◌+◌, ◌-◌, ◌≤◌, length};
 ghost use Rattle.words.specs.Bytes.{part, over, zeros};
 
-// Copies src to index at.
+// Copies src to index at. Byte by byte: LLVM makes vector code of it. Std's `copy_from_slice` becomes a call of `memmove`, and the library
+// for C needs nothing of the C library but `memset`.
 pub fn copy(v: &mut [u8], at: usize, src: &[u8])
     requires { at + length src.now ≤ length v.old }
     ensures { v.new ≡ over v.old at src.now }
 {
-    v[at..at + src.len()].copy_from_slice(src);
+    for (i, byte) in src.iter().enumerate() {
+        v[at + i] = *byte;
+    }
 }
 
 // Writes n zeros from index at.

@@ -3,10 +3,10 @@
 // that the function answers, or the checksum of the buffer that it changed, or `outside` where its contract forbids the call.
 #![tactic(auto)]
 
-ghost use Rattle.std.specs.Prelude.{◌≡◌, true, ◌+◌, ◌≤◌, ◌<◌, length, IsSome};
+ghost use Rattle.std.specs.Prelude.{◌↔◌, ◌+◌, ◌≤◌, ◌<◌, length, IsSome, IsTrue};
 
 use std::io;
-use vectors::Numbers;
+use vectors::{Lossy, Numbers};
 
 // Bytes of the buffer.
 const SIZE: usize = 1024;
@@ -103,9 +103,10 @@ enum Step {
     Unknown,
 }
 
-fn main(rt: HostRuntime) -> io::Result<()> {
-    let text = vectors::read_text(&rt)?;
-    replay(&rt, &mut Numbers::new(&text))
+fn main(rt: HostRuntime) {
+    let mut room = vectors::blank();
+    let (text, _) = vectors::read_text(&mut rt.stdin(), &mut room);
+    let _ = replay(&Lossy(rt), &mut Numbers::new(text));
 }
 
 // The steps up to a step of END, or to the end of the text.
@@ -297,7 +298,7 @@ fn shift_down(v: &mut [u8], from: usize, to: usize, by: usize) -> Option<()> {
 
 // Whether n bytes lie in v from index at on.
 fn fits(v: &[u8], at: usize, n: usize) -> bool
-    ensures { result ≡ true → at + n ≤ length v.now }
+    ensures { IsTrue result ↔ (at + n ≤ length v.now) }
 {
     at.checked_add(n).is_some_and(|end| end <= v.len())
 }

@@ -1,7 +1,8 @@
 use Rattle.std.proofs.Common.{◌*◌, ◌≤◌, length}
 use Rattle.types.specs.Sizes.{most_path}
 use Rattle.paths.specs.Bounds.{cut_bounds}
-use Rattle.paths.proofs.Walk.{bounds, Left}
+use Rattle.paths.proofs.LeftWalk.{bounds}
+use Rattle.paths.proofs.Walk.{Left}
 use Rattle.paths.proofs.get_path_parts.Given as goal
 
 abbrev pub invariant-loop-piece : goal.invariant-loop-piece

@@ -1,9 +1,9 @@
-use Rattle.files.proofs.KeepSteps.{put-asked, kept-asked, kept-stays, kept-moves}
+use Rattle.files.proofs.KeepSteps.{kept-asked, kept-stays, kept-moves}
 use Rattle.files.proofs.chunks.keep_chunk.Goals as goal
 
 pub put_piece-requires : goal.put_piece-requires
 put_piece-requires c =
-    put-asked c.requires.0 c.requires.1 c.args.from c.args.bytes.now c.requires.2 c.requires.3 c.chunk_row-row.ensures
+    (c.requires.0.ready, rw c.chunk_row-row.ensures c.requires.2, c.requires.3, c.requires.4)
 
 pub returns-then-gap-eq0 : goal.returns-then-gap-eq0
 returns-then-gap-eq0 c =

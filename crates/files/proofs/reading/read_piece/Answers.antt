@@ -1,7 +1,8 @@
 use mathlib.Core.Bool.{not}
-use mathlib.Core.Path.{ap}
+use mathlib.Core.Path.{ap, sym, ◌∙◌}
 use lib.ListN.{length}
 use native.Mathlib.Omega.{arith}
+use Rattle.words.proofs.Written.{over-all, length-lent}
 use Rattle.tables.proofs.ReadyVolume.{fits-of}
 use Rattle.files.proofs.ReadPieces.{hole-read, row_ends, row_read, row-there}
 use Rattle.files.proofs.reading.read_piece.Goals as goal
@@ -22,8 +23,8 @@ pub overflow_add-from-2 : goal.overflow_add-from-2
 overflow_add-from-2 c =
     omega (arith, ap length c.area-area.ensures, row_ends c.args.tables.now.store c.requires.ready.1 c.args.node c.args.offset c.args.place c.requires.placed.0 c.requires.ready.0 c.is_row.ensures (ap not c.if-not-is_row.false) c.chunk_row-chunk.ensures c.args.out.now c.requires.placed.1)
 
-pub slice_bounds-copy_from_slice-end : goal.slice_bounds-copy_from_slice-end
-slice_bounds-copy_from_slice-end c =
+pub slice_bounds-copy-end : goal.slice_bounds-copy-end
+slice_bounds-copy-end c =
     omega (arith, ap length c.area-area.ensures, row_ends c.args.tables.now.store c.requires.ready.1 c.args.node c.args.offset c.args.place c.requires.placed.0 c.requires.ready.0 c.is_row.ensures (ap not c.if-not-is_row.false) c.chunk_row-chunk.ensures c.args.out.now c.requires.placed.1)
 
 pub overflow_add-result : goal.overflow_add-result
@@ -32,4 +33,4 @@ overflow_add-result c =
 
 pub returns : goal.returns
 returns c =
-    row_read c.args.tables.now.store c.requires.ready.1 c.args.node c.args.offset c.args.place c.requires.placed.0 c.requires.ready.0 c.is_row.ensures (ap not c.if-not-is_row.false) c.chunk_row-chunk.ensures c.args.out.now c.requires.placed.1 c.area-area.ensures c.copy_from_slice.ensures.after
+    row_read c.args.tables.now.store c.requires.ready.1 c.args.node c.args.offset c.args.place c.requires.placed.0 c.requires.ready.0 c.is_row.ensures (ap not c.if-not-is_row.false) c.chunk_row-chunk.ensures c.args.out.now c.requires.placed.1 c.area-area.ensures (c.copy.ensures ∙ over-all _ _ (sym (length-lent c.area-area.result.now _ (length c.args.out.now) (omega (arith, ap length c.area-area.ensures, row_ends c.args.tables.now.store c.requires.ready.1 c.args.node c.args.offset c.args.place c.requires.placed.0 c.requires.ready.0 c.is_row.ensures (ap not c.if-not-is_row.false) c.chunk_row-chunk.ensures c.args.out.now c.requires.placed.1)))))

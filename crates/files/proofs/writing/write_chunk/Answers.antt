@@ -14,7 +14,7 @@ slice_bounds-part-end c =
 
 pub keep_chunk-requires : goal.keep_chunk-requires
 keep_chunk-requires c =
-    keep-asked c.requires.gapped.0 c.requires.gapped.1 c.args.node c.args.offset c.args.bytes.now c.args.index c.requires.gapped.2 (record { before = c.requires.touched.0; behind = c.requires.touched.1 }) c.requires.gapped.5 c.piece_of-piece.ensures c.is_row.ensures c.if-is_row.true
+    let k = keep-asked c.requires.gapped.0 c.requires.gapped.1 c.args.node c.args.offset c.args.bytes.now c.args.index c.requires.gapped.2 (record { before = c.requires.touched.0; behind = c.requires.touched.1 }) c.requires.gapped.5 c.piece_of-piece.ensures c.is_row.ensures c.if-is_row.true in (k.0, k.1, k.2, k.3, c.requires.gapped.5)
 
 pub returns-then-is_row : goal.returns-then-is_row
 returns-then-is_row c =

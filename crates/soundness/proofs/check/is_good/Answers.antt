@@ -16,6 +16,10 @@ is_owned-requires c =
       | then-is_named w ↦ (
         says-true (says-named v.names) (told c.is_named.ensures w.if-is_named.true),
         says-true (says-stored v.store (omega (arith, accepted-bounds v.store.allocator.chunk_size f.size)) f.chunk_room.1) (told w.is_stored.ensures (sym w.value-is ∙ c.if-is_stored.true)),
+        c.chunk_size-span.ensures.0,
+        c.chunk_size-span.ensures.1,
+        c.chunk_size-span.ensures.2,
+        c.chunk_size-span.ensures.3,
       )
       | else-is_named w ↦ absurd (false≢true (sym w.if-is_named.false ∙ sym w.value-is ∙ c.if-is_stored.true))
     ]

@@ -19,12 +19,12 @@ node_row-owner-requires c =
 
 pub owned_by-requires : goal.owned_by-requires
 owned_by-requires c =
-    (c.chunk_size-span.ensures.3, c.chunk_size-span.ensures.2, omega (arith, ap (λ r. r.pointer) c.chunk_row-row.ensures, c.chunk_size-span.ensures.0, row_inside c.args.tables.now.store c.requires.1 (omega (arith, c.chunk_size-span.ensures)) c.args.i c.requires.2), omega (arith, ap (λ r. r.size) c.node_row-owner.ensures, node-size c.args.tables.now.names (fits-of c.tables.invariant c.tables.view_is).names c.requires.0 _ (node-found _ c.args.tables.now.names.nodes _ c.in_ok-k.ensures).0))
+    (c.requires.5, c.requires.4, omega (arith, ap (λ r. r.pointer) c.chunk_row-row.ensures, c.requires.2, row_inside c.args.tables.now.store c.requires.1 (omega (arith, c.requires.2, c.requires.3)) c.args.i c.requires.6), omega (arith, ap (λ r. r.size) c.node_row-owner.ensures, node-size c.args.tables.now.names (fits-of c.tables.invariant c.tables.view_is).names c.requires.0 _ (node-found _ c.args.tables.now.names.nodes _ c.in_ok-k.ensures).0))
 
 pub returns-then-not-owned_by : goal.returns-then-not-owned_by
 returns-then-not-owned_by c =
-    (not-owner (by-owner c.args.tables.now.names c.args.tables.now.store c.args.i c.chunk_row-row.ensures c.in_ok-k.ensures refl c.node_row-owner.ensures c.chunk_size-span.ensures.0 c.owned_by.ensures) (ap not c.if-not-owned_by.true), λ k e. absurd (nothing-at k e))
+    (not-owner (by-owner c.args.tables.now.names c.args.tables.now.store c.args.i c.chunk_row-row.ensures c.in_ok-k.ensures refl c.node_row-owner.ensures c.requires.2 c.owned_by.ensures) (ap not c.if-not-owned_by.true), λ k e. absurd (nothing-at k e))
 
 pub returns : goal.returns
 returns c =
-    (is-owner _ (by-owner c.args.tables.now.names c.args.tables.now.store c.args.i c.chunk_row-row.ensures c.in_ok-k.ensures refl c.node_row-owner.ensures c.chunk_size-span.ensures.0 c.owned_by.ensures) (ap not c.if-not-owned_by.false), λ k e. row-counter c.args.tables.now.names (fits-of c.tables.invariant c.tables.view_is).names _ k (sym e ∙ c.in_ok-k.ensures))
+    (is-owner _ (by-owner c.args.tables.now.names c.args.tables.now.store c.args.i c.chunk_row-row.ensures c.in_ok-k.ensures refl c.node_row-owner.ensures c.requires.2 c.owned_by.ensures) (ap not c.if-not-owned_by.false), λ k e. row-counter c.args.tables.now.names (fits-of c.tables.invariant c.tables.view_is).names _ k (sym e ∙ c.in_ok-k.ensures))
