@@ -1,7 +1,7 @@
 -- A whole piece of a path by its length and its dots: of what sort it is.
 -- Assumes nothing.
-use mathlib.Core.Path.{◌≡◌, refl, ap, ◌∙◌}
-use mathlib.Core.Bool.{Bool, true, false}
+use mathlib.Core.Path.{◌≡◌, refl, sym, ap, ◌∙◌}
+use mathlib.Core.Bool.{Bool, true, false, false≢true}
 use mathlib.Core.List.{List, [], ◌∷◌}
 use Prim.Native.Nat.{ℕ, suc, ◌+◌, ◌≤◌, ◌<◌}
 use native.Mathlib.Omega.{arith}
@@ -15,7 +15,9 @@ use Rattle.words.proofs.Rules.{pick_true, pick-false}
 use Rattle.paths.specs.declared.Sort.{Sort}
 use Rattle.paths.specs.declared.Sort.TheVariants.{Dropped, Upward, Name}
 use Rattle.paths.specs.Path.{slash, dot, dropped, upward, no_slash}
+use Rattle.paths.specs.Pieces as by_bytes
 use Rattle.paths.proofs.Sorts.{Sorted, is-dropped, is-upward, is_plain_name}
+use Rattle.paths.proofs.Sorts as by_sorts
 
 -- the n bytes from index at are a whole piece of the path, so many of them dots
 pub record Pieced (path : List ℕ) (at n dots : ℕ) : Type 0 where
@@ -24,6 +26,17 @@ pub record Pieced (path : List ℕ) (at n dots : ℕ) : Type 0 where
   pub closed : at + n < length path → get_or path (at + n) 0 ≡ slash
   pub dotted : dots ≡ count dot (part path at n)
   pub few : dots ≤ n
+
+bit_few : (t : Bool) → bit t ≤ 1
+unfolding bit
+bit_few true = omega arith
+bit_few false = omega arith
+
+-- no more than it has bytes
+pub dots_few : (p : List ℕ) → count dot p ≤ length p
+unfolding count times
+dots_few [] = omega arith
+dots_few (x ∷ p) = let h : count dot p ≤ length p = dots_few p in omega (arith, bit_few (eqb x dot))
 
 -- a piece of so many bytes, so many of them dots: only one that is all dots can be empty, `.` or `..`
 unfoldable pub sort_of : ℕ → ℕ → Sort
@@ -68,3 +81,18 @@ sorted [] = unfold dropped either same sort_of pick in is-dropped refl
 sorted (x ∷ []) = sorted-one x (eqb x dot) refl
 sorted (x ∷ y ∷ []) = sorted-two x y (eqb x dot) (eqb y dot) refl refl
 sorted (x ∷ y ∷ z ∷ p) = sorted_more x y z p (count dot (x ∷ y ∷ z ∷ p))
+
+-- it is the sort by its bytes alone
+one-sort : {p : List ℕ} {s t : Sort} → Sorted p s → Sorted p t → s ≡ t
+one-sort (is-dropped d) (is-dropped e) = refl
+one-sort (is-dropped d) (is-upward e u) = absurd (false≢true (sym e ∙ d))
+one-sort (is-dropped d) (is_plain_name e u) = absurd (false≢true (sym e ∙ d))
+one-sort (is-upward d u) (is-dropped e) = absurd (false≢true (sym d ∙ e))
+one-sort (is-upward d u) (is-upward e v) = refl
+one-sort (is-upward d u) (is_plain_name e v) = absurd (false≢true (sym v ∙ u))
+one-sort (is_plain_name d u) (is-dropped e) = absurd (false≢true (sym d ∙ e))
+one-sort (is_plain_name d u) (is-upward e v) = absurd (false≢true (sym u ∙ v))
+one-sort (is_plain_name d u) (is_plain_name e v) = refl
+
+pub sort-dotted : (p : List ℕ) → by_bytes.sort_of p ≡ sort_of (length p) (count dot p)
+sort-dotted p = one-sort (by_sorts.sorted p) (sorted p)

@@ -49,7 +49,7 @@ walk-sorted at b p rest Name (is_plain_name h k) e = rw e (sym (pick-false _ _ _
 module _ (path : List ℕ) (at next dots k : ℕ) (o : Bool) (ss ls : List ℕ) {st : Cut} {ss' ls' : List ℕ} {w : Cutout}
     (i : w ≡ walk_bounds at (bounds ss ls k o) (left path at)) (h : at < next) (p : Pieced path at (next - at - 1) dots)
     (e : cutout st ss' ls' ≡ placed_as (sort_of (next - at - 1) dots) at (next - at - 1) k ss ls) where
-  walk_more : w ≡ resumed st ss' ls' next (left path next)
+  pub walk_more : w ≡ resumed st ss' ls' next (left path next)
   walk_more =
       let n = next - at - 1 in
       let q : length (part path at n) ≡ n = length_part path at n p.within in
@@ -65,7 +65,7 @@ module _ (path : List ℕ) (at next dots k : ℕ) (o : Bool) (ss ls : List ℕ) 
 -- ---- no piece is left
 
 module _ (path : List ℕ) (at k : ℕ) (o : Bool) (ss ls : List ℕ) {w : Cutout} (i : w ≡ walk_bounds at (bounds ss ls k o) (left path at)) (h : length path < at) where
-  walk_end : cutout (Ok (record { count = k; opened = both o (ltb 0 k) })) ss ls ≡ w
+  pub walk_end : cutout (Ok (record { count = k; opened = both o (ltb 0 k) })) ss ls ≡ w
   unfolding walk_bounds
   walk_end = sym (rw (left-none path at h) at i)
 

@@ -1,102 +1,113 @@
 -- One turn of the walk over the pieces of a path, as the code takes it.
 -- Assumes nothing.
-use Rattle.std.specs.Prelude.{Ok, Err, Option, Some, None}
-use Rattle.std.specs.Fn.{CalledAt}
+use Rattle.std.specs.Prelude.{Ok, Err}
 use Rattle.std.specs.List.{starts_with}
-use Rattle.std.specs.Slice.Iter.{split_rest, split_done, split_callee, split_steps}
-use Rattle.std.specs.declared.slice.Split.{Split}
-use Rattle.std.proofs.lemmas.Iterator.{YieldsList}
-use Rattle.std.proofs.lemmas.Iterator.Splits.{YieldsList-from_slice_split}
-use denote.Ref.{Bor}
-use denote.Param.Members.{Mut}
 use mathlib.Core.Path.{◌≡◌, refl, sym, ◌∙◌}
-use mathlib.Core.Bool.{Bool, true, false, ◌&&◌}
-use mathlib.Core.List.{List, [], ◌∷◌}
-use Prim.Native.Nat.{ℕ, ◌+◌, ◌≤◌, ◌<◌}
+use mathlib.Core.Bool.{Bool, true, false, not, ◌&&◌}
+use mathlib.Core.List.{List, [], ◌∷◌, ◌++◌}
+use Prim.Native.Nat.{ℕ, ◌+◌, ◌-◌, ◌*◌, ◌≤◌, ◌<◌}
 use native.Mathlib.Omega.{arith}
 use lib.Dec.{eqb, ltb}
 use borrow.Author.Tests.{eq-eqb, ne_eqb, eqb-true, eqb-false, lt-ltb, le-ltb}
-use lib.ListN.{length, get_or}
-use Rattle.words.specs.Rules.{both}
+use lib.ListN.{length, take, drop, get_or}
+use Rattle.words.specs.Bytes.{part}
+use Rattle.words.specs.Rules.{both, count}
+use Rattle.words.proofs.Joined.{both_true}
 use Rattle.words.proofs.Rules.{pick_true, pick-false}
+use Rattle.words.proofs.Parts.{length_part, part-snoc, part_none}
 use Rattle.types.specs.Sizes.{most_path}
 use Rattle.paths.specs.declared.Parts.{Parts}
 use Rattle.paths.specs.declared.PathError.TheVariants.{NotPermitted, TooLong}
 use Rattle.paths.specs.declared.PathError.{PathError}
-use Rattle.paths.specs.Path.{slash}
+use Rattle.paths.specs.Path.{slash, dot, no_slash}
 use Rattle.paths.specs.Bounds.{Bounds, walk_bounds, cut_bounds}
 use Rattle.paths.specs.Shown.{Cut, Cutout, cutout}
 use Rattle.paths.specs.Pieces.{sort_of, placed_as}
-use Rattle.paths.proofs.Sorts.{sorted}
-use Rattle.paths.proofs.Splitting.{split-pieces}
-use Rattle.paths.proofs.Pieces.{left, left-all, left-first}
-use Rattle.paths.proofs.LeftWalk.{bounds, resumed, walk-sorted}
+use Rattle.paths.proofs.Dots.{Pieced, dots_few, sort-dotted}
+use Rattle.paths.proofs.Dots as dots
+use Rattle.paths.proofs.Pieces.{left}
+use Rattle.paths.proofs.LeftWalk.{bounds, resumed}
 use Rattle.paths.proofs.LeftWalk as from
 
--- ---- a piece, by its bytes
+-- ---- the walk before a byte of the path
 
-walk-piece : (at : ℕ) (b : Bounds) (p : List ℕ) (rest : List (List ℕ)) {q : Cutout} → q ≡ placed_as (sort_of p) at (length p) b.count b.starts b.lengths
-    → walk_bounds at b (p ∷ rest) ≡ resumed q.cut q.starts q.lengths (at + length p + 1) rest
-walk-piece at b p rest e = walk-sorted at b p rest (sort_of p) (sorted p) e
+no-slash-snoc : (a : List ℕ) (x : ℕ) → no_slash a ≡ true → eqb x slash ≡ false → no_slash (a ++ (x ∷ [])) ≡ true
+unfolding no_slash both
+no-slash-snoc [] x h e = rw e refl
+no-slash-snoc (y ∷ a) x h e = let k = both_true (not (eqb y slash)) (no_slash a) h in rw k.0 (no-slash-snoc a x k.1 e)
 
--- ---- the walk over the pieces that an iterator has left, the first of which starts at index at
+no-slash-none : no_slash [] ≡ true
+unfolding no_slash
+no-slash-none = refl
 
-pub record Left {S : Type 0} (steps : S → Option (Bor (List ℕ)) → S → Type 0) (s : S) (path : List ℕ) (at : ℕ) (b : Bounds) (w : Cutout) : Type 0 where
-  pub yields : YieldsList steps (λ p. p.now) s (left path at)
+-- the pieces that end before index end are placed; the bytes from index at up to it, none of them a slash, begin the next one
+pub record Walking (path : List ℕ) (at end : ℕ) (b : Bounds) (w : Cutout) : Type 0 where
+  pub short : length path ≤ most_path
+  pub begun : at ≤ end
+  pub half : 2 * b.count ≤ at
+  pub whole : no_slash (part path at (end - at)) ≡ true
   pub walks : w ≡ walk_bounds at b (left path at)
 
--- a piece that is taken, and the others
-record Taken {S : Type 0} (steps : S → Option (Bor (List ℕ)) → S → Type 0) (t : S) (path : List ℕ) (at : ℕ) (b : Bounds) (w : Cutout) (p : List ℕ) : Type 0 where
-  yields : YieldsList steps (λ p. p.now) t (left path (at + length p + 1))
-  within : at + length p ≤ length path
-  walks : w ≡ walk_bounds at b (p ∷ left path (at + length p + 1))
+-- a byte that is no slash
+pub walk-on : {path : List ℕ} {at end : ℕ} {b : Bounds} {w : Cutout} → Walking path at end b w → end < length path → (get_or path end 0 ≡ slash → ⊥) → Walking path at (end + 1) b w
+walk-on {path} {at} {end} l h n =
+    let m : end + 1 - at ≡ end - at + 1 = omega (arith, l.begun) in
+    let i : at + (end - at) ≡ end = omega (arith, l.begun) in
+    let p : part path at (end + 1 - at) ≡ part path at (end - at) ++ (get_or path end 0 ∷ []) = rw (m, part-snoc path at (end - at) (omega (arith, l.begun)), i) refl in
+    record {
+      short = l.short;
+      begun = omega (arith, l.begun);
+      half = l.half;
+      whole = rw p (no-slash-snoc (part path at (end - at)) (get_or path end 0) l.whole (ne_eqb _ _ n));
+      walks = l.walks;
+    }
 
-module _ {S : Type 0} {steps : S → Option (Bor (List ℕ)) → S → Type 0} {s t : S} {path : List ℕ} {at k : ℕ} {o : Bool} {ss ls : List ℕ} {w : Cutout} (l : Left steps s path at (bounds ss ls k o) w) {r : Option (Bor (List ℕ))} where
-  -- none is
-  walk_end : r ≡ None → steps s r t → cutout (Ok (record { count = k; opened = both o (ltb 0 k) })) ss ls ≡ w
-  unfolding walk_bounds
-  walk_end e h = go (left path at) l.yields l.walks
-    where
-      go : (ps : List (List ℕ)) → YieldsList steps (λ p. p.now) s ps → w ≡ walk_bounds at (bounds ss ls k o) ps → cutout (Ok (record { count = k; opened = both o (ltb 0 k) })) ss ls ≡ w
-      go [] y f = sym f
-      go (p ∷ ps) y f = absurd (y.runs.0 t (rw e at h))
+-- the piece ends at index end: a slash, or the path's end
+module _ {path : List ℕ} {at end k : ℕ} {o : Bool} {ss ls : List ℕ} {w : Cutout} (l : Walking path at end (bounds ss ls k o) w) (within : end ≤ length path) where
+  pub piece-length : length (take (end - at) (drop at path)) ≡ end - at
+  unfolding part
+  piece-length = length_part path at (end - at) (omega (arith, l.begun))
 
-  -- `opened && 0 < count`
-  pub walk-open : r ≡ None → steps s r t → o ≡ true → cutout (Ok (record { count = k; opened = ltb 0 k })) ss ls ≡ w
-  unfolding both
-  walk-open e h f = rw f at (walk_end e h)
+  module _ (closed : end < length path → get_or path end 0 ≡ slash) {c : Cut} {ss' ls' : List ℕ}
+      (placed : cutout c ss' ls' ≡ placed_as (sort_of (take (end - at) (drop at path))) at (length (take (end - at) (drop at path))) k ss ls) where
+    same-length : end + 1 - at - 1 ≡ end - at
+    same-length = omega (arith, l.begun)
 
-  pub walk-shut : r ≡ None → steps s r t → o ≡ false → cutout (Ok (record { count = k; opened = o })) ss ls ≡ w
-  unfolding both
-  walk-shut e h f = rw f (rw f at (walk_end e h))
+    pieced : Pieced path at (end + 1 - at - 1) (count dot (part path at (end - at)))
+    pieced =
+        let m : length (part path at (end - at)) ≡ end - at = length_part path at (end - at) (omega (arith, l.begun)) in
+        let i : at + (end - at) ≡ end = omega (arith, l.begun) in
+        rw same-length (record { within = omega (arith, l.begun); whole = l.whole; closed = λ h. rw i (closed (omega (arith, i))); dotted = refl; few = rw m at (dots_few (part path at (end - at))) })
 
-  module _ {p : Bor (List ℕ)} (e : r ≡ Some p) (h : steps s r t) where
-    taken : Taken steps t path at (bounds ss ls k o) w p.now
-    taken = go (left path at) l.yields l.walks refl
-      where
-        go : (ps : List (List ℕ)) → YieldsList steps (λ p. p.now) s ps → w ≡ walk_bounds at (bounds ss ls k o) ps → left path at ≡ ps → Taken steps t path at (bounds ss ls k o) w p.now
-        go [] y f g = absurd (y.runs p t (rw e at h))
-        go (q ∷ ps) y f g =
-            let m = y.runs.1 p t (rw e at h) in
-            let n = left-first path at q ps g in
-            rw m.0 (record { yields = record { runs = rw n.1 at m.1 }; within = n.0; walks = rw n.1 at f })
+    dotted : cutout c ss' ls' ≡ placed_as (dots.sort_of (end + 1 - at - 1) (count dot (part path at (end - at)))) at (end + 1 - at - 1) k ss ls
+    unfolding part
+    dotted = rw same-length (rw (sort-dotted (take (end - at) (drop at path)), piece-length) at placed)
 
-    pub walk-within : at + length p.now ≤ length path
-    walk-within = taken.within
+    walked : w ≡ resumed c ss' ls' (end + 1) (left path (end + 1))
+    walked = from.walk_more path at (end + 1) _ k o ss ls l.walks (omega (arith, l.begun)) pieced dotted
 
-    module _ {c : Cut} {ss' ls' : List ℕ} (placed : cutout c ss' ls' ≡ placed_as (sort_of p.now) at (length p.now) k ss ls) where
-      walk_more : w ≡ resumed c ss' ls' (at + length p.now + 1) (left path (at + length p.now + 1))
-      walk_more = taken.walks ∙ walk-piece at (bounds ss ls k o) p.now (left path (at + length p.now + 1)) placed
+    pub walk-barred : {error : PathError} → c ≡ Err error → cutout (Err error) ss' ls' ≡ w
+    unfolding resumed
+    walk-barred f = sym (rw f at walked)
 
-      pub walk-barred : {error : PathError} → c ≡ Err error → cutout (Err error) ss' ls' ≡ w
-      unfolding resumed
-      walk-barred f = sym (rw f at walk_more)
+    module _ {made : Parts} (f : c ≡ Ok made) where
+      turned : w ≡ walk_bounds (end + 1) (bounds ss' ls' made.count made.opened) (left path (end + 1))
+      turned = from.walk_turn path at (end + 1) _ k o ss ls l.walks (omega (arith, l.begun)) pieced dotted f
 
-      pub walk_turn : {made : Parts} → c ≡ Ok made → Left steps t path (at + (length p.now + 1)) (bounds ss' ls' made.count made.opened) w
-      unfolding resumed
-      walk_turn f =
-          let m : at + (length p.now + 1) ≡ at + length p.now + 1 = omega arith in
-          rw m (record { yields = taken.yields; walks = rw f at walk_more })
+      pub walk_turn : 2 * made.count ≤ end + 1 → Walking path (end + 1) (end + 1) (bounds ss' ls' made.count made.opened) w
+      walk_turn h = record { short = l.short; begun = omega arith; half = h; whole = rw (part_none path (end + 1) (end + 1)) no-slash-none; walks = turned }
+
+      -- it was the last one: `opened && 0 < count`
+      walk_end : length path ≤ end → cutout (Ok (record { count = made.count; opened = both made.opened (ltb 0 made.count) })) ss' ls' ≡ w
+      walk_end h = from.walk_end path (end + 1) made.count made.opened ss' ls' turned (omega arith)
+
+      pub walk-open : length path ≤ end → made.opened ≡ true → cutout (Ok (record { count = made.count; opened = ltb 0 made.count })) ss' ls' ≡ w
+      unfolding both
+      walk-open h e = rw e at (walk_end h)
+
+      pub walk-shut : length path ≤ end → made.opened ≡ false → cutout (Ok (record { count = made.count; opened = made.opened })) ss' ls' ≡ w
+      unfolding both
+      walk-shut h e = rw e (rw e at (walk_end h))
 
 -- ---- the whole of it
 
@@ -119,14 +130,8 @@ module _ (path ss ls : List ℕ) where
     unfolding cut_bounds
     cut-led f = pick-false _ _ _ _ (le-ltb _ _ h) (pick_true _ _ _ _ (sym e ∙ f) refl)
 
-  module _ {s : Bool} (h : length path ≤ most_path) (e : s ≡ starts_with eqb path (slash ∷ [])) where
-    pub walk_start : {F : Type 0} (g : Mut F (Bor ℕ × Unit {0}) Bool) {f : F} {it : Split ℕ F} → s ≡ false → split_rest it ≡ path → split_done it ≡ false → split_callee it ≡ f
-        → ((x : ℕ) (b : Bool) (q : F) → CalledAt g f x b q → (q ≡ f) × (b ≡ eqb x slash)) → Left (split_steps g) it path 0 (bounds ss ls 0 true) (cut_bounds path ss ls)
-    walk_start g {it = it} n rest done closure tests =
-        record {
-          yields = rw (split-pieces, ← left-all path) at (YieldsList-from_slice_split {s = it} g (λ b. eqb b slash) path rest done closure tests);
-          walks = from.walk_start path ss ls h (e ∙ leads path) n;
-        }
+    pub walk_start : s ≡ false → Walking path 0 0 (bounds ss ls 0 true) (cut_bounds path ss ls)
+    walk_start f = record { short = h; begun = omega arith; half = omega arith; whole = rw (part_none path 0 0) no-slash-none; walks = from.walk_start path ss ls h e f }
 
 -- ---- what the code needs
 

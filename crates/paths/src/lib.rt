@@ -115,10 +115,15 @@ pub fn get_path_parts(
         count: 0,
         opened: true,
     };
-    for piece in path.split(|&byte| matches!(byte, b'/')) {
-        parts = place_piece(piece, at, parts.count, starts, lengths)?;
-        at += piece.len() + 1;
+    // Over the bytes: std's `split` takes half as long again where a path has many short pieces.
+    for (end, &byte) in path.iter().enumerate() {
+        if byte != b'/' {
+            continue;
+        }
+        parts = place_piece(&path[at..end], at, parts.count, starts, lengths)?;
+        at = end + 1;
     }
+    parts = place_piece(&path[at..], at, parts.count, starts, lengths)?;
     Ok(Parts {
         count: parts.count,
         opened: parts.opened && 0 < parts.count,
