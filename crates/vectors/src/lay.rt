@@ -27,6 +27,9 @@ fn lay_run(numbers: &mut Numbers<'_>, memory: &mut [u8])
         if has_room(memory, at) {
             words::put::<WORD>(memory, at, word);
             at += WORD;
+        } else if reader.is_done() {
+            // No later word fits, and none is left to read.
+            break;
         }
     }
     *numbers = reader;

@@ -34,6 +34,13 @@ impl<'a> Numbers<'a> {
         Numbers { rest: self.rest }
     }
 
+    // Whether no byte is left.
+    pub(crate) fn is_done(&self) -> bool
+        ensures { result ≡ (length self.now == 0) }
+    {
+        self.rest.is_empty()
+    }
+
     // The next number, which stays the next.
     #[tactic(auto, using(crate::proofs::Scanning::seen, crate::proofs::Scanning::unseen))]
     pub fn peek(&self) -> u64
